@@ -1,0 +1,11 @@
+mod Blocks
+mod Copies
+mod Images
+mod Logs
+mod Noting
+mod Parts
+mod Pigeonhole
+mod Shots
+mod Steps
+mod Tested
+mod Undoing
