@@ -1,0 +1,6 @@
+mod Finds
+mod Ways
+mod Listed
+mod Flagged
+mod Standing
+mod Answered
