@@ -1,0 +1,9 @@
+pub mod Bit
+pub mod Table
+pub mod Fault
+pub mod Line
+pub mod Cover
+pub mod Row
+pub mod Written
+pub mod Reading
+pub mod Laws
