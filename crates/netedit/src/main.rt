@@ -24,16 +24,25 @@ enum Task {
 
 fn asked(first: Option<&str>, second: Option<&str>) -> Result<Task, AnyError> {
     let (Some(first), Some(second)) = (first, second) else {
-        return Ok(if first.is_none() { Task::Play(Shape { size: 8, limit: 3 }) } else { Task::Unknown });
+        return Ok(if first.is_none() {
+            Task::Play(Shape { size: 8, limit: 3 })
+        } else {
+            Task::Unknown
+        });
     };
     if first == "check" {
-        return Ok(match second {
-            "file" => Task::CheckFile,
-            "script" => Task::CheckScript,
-            _ => Task::Unknown,
-        });
+        return Ok(
+            match second {
+                "file" => Task::CheckFile,
+                "script" => Task::CheckScript,
+                _ => Task::Unknown,
+            },
+        );
     }
-    Ok(Task::Play(Shape { size: first.parse::<usize>()?, limit: second.parse::<usize>()? }))
+    Ok(Task::Play(Shape {
+        size: first.parse::<usize>()?,
+        limit: second.parse::<usize>()?,
+    }))
 }
 
 fn run(rt: &LibcRuntime) -> Result<(), AnyError> {
