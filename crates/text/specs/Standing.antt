@@ -4,11 +4,12 @@ use mathlib.Core.Bool.{true, cond}
 use mathlib.Core.List.{List, [], _∷_}
 use Prim.Native.Nat.{ℕ, _+_}
 use lib.Dec.{eqb}
-use lib.ListN.{length, take, drop}
+use lib.ListN.{length, take, drop, replicate}
 use Rattle.std.specs.shelf.Lists.{All}
-use Rattle.text.specs.Rules.{Rules, every, wordByte}
-use Rattle.text.specs.Words.{Part, fits}
+use Rattle.text.specs.Rules.{Rules, fileRules, every, wordByte}
+use Rattle.text.specs.Words.{Part, part, fits}
 use Rattle.text.specs.Lines.{Item, holds, faulty, contents}
+use Rattle.text.specs.declared.faults.TextFault.the-variants.{WrongWord}
 
 -- how many lines end in bs
 abbrev pub newlines : List ℕ → ℕ
@@ -31,3 +32,8 @@ AllStand text (faulty n f ∷ is) = AllStand text is
 -- whatever the kind of text, its limit and its bytes
 abbrev pub Words-stand : Type 0
 Words-stand = (k : Rules) (limit : ℕ) (text : List ℕ) → AllStand text (contents k limit text)
+
+-- a name of 32 bytes serves, and one of 33 is refused with 32
+pub record Name-lengths : Type 0 where
+  pub longest : contents fileRules 1048576 (replicate 32 97) ≡ holds 1 (part 0 1 (replicate 32 97) ∷ []) ∷ []
+  pub too-long : contents fileRules 1048576 (replicate 33 97) ≡ faulty 1 WrongWord ∷ []

@@ -18,6 +18,7 @@ pub use kinds::FileText;
 pub use kinds::Script;
 pub use kinds::ScriptText;
 pub use kinds::Text;
+pub use laws::name_lengths_hold;
 pub use laws::words_stand;
 pub use numbers::NumberFault;
 pub use numbers::read_number;
