@@ -8,9 +8,10 @@ use native.Mathlib.Omega.{arith}
 use lib.Dec.{eqb}
 use Rattle.std.proofs.shelf.Tests.{or-cases, or-left, or-right, eqb-true, eq-eqb}
 use Rattle.std.specs.declared.result.Result.the-variants.{Ok, Err}
+use Rattle.reach.specs.Reach.{Among}
 use Rattle.netlist.specs.declared.edit.Edit.the-variants.{Input, Output, Gate, Latch, Delete, Move}
 use Rattle.netlist.specs.declared.edit.Refusal.the-variants.{Driven, Looped}
-use Rattle.netlist.specs.Netlist.{Netlist, Driver, absent, input, gate, latch, Among, Feeds, Leads, here, onward, Loop}
+use Rattle.netlist.specs.Netlist.{Netlist, Driver, absent, input, gate, latch, Feeds, Leads, here, onward, Loop}
 use Rattle.netlist.specs.Places.{Order, place, Ordered, Moves, Puts}
 use Rattle.netlist.specs.Edits.{Board, Edits, Applies, no-batch, no-signal, out-of-range, driven, wrong-kind, no-pin, in-use, looped, emptyBoard, asked}
 use Rattle.netlist.specs.Laws.{Worked, follower}

@@ -8,11 +8,12 @@ use lib.Dec.{eqb}
 use lib.ListN.{length, set, take}
 use Rattle.std.specs.declared.result.Result.{Result}
 use Rattle.std.specs.declared.result.Result.the-variants.{Ok, Err}
+use Rattle.reach.specs.Reach.{Among}
 use Rattle.netlist.specs.declared.edit.Edit.{Edit}
 use Rattle.netlist.specs.declared.edit.Edit.the-variants.{Input, Output, Gate, Latch, Delete, Move}
 use Rattle.netlist.specs.declared.edit.Refusal.{Refusal}
 use Rattle.netlist.specs.Refusals.{number}
-use Rattle.netlist.specs.Netlist.{Netlist, Driver, Signal, absent, input, gate, latch, driverOf, outputOf, pinsOf, Among, Used, Loop, emptyNetlist}
+use Rattle.netlist.specs.Netlist.{Netlist, Driver, Signal, absent, input, gate, latch, driverOf, outputOf, pinsOf, Used, Loop, emptyNetlist}
 use Rattle.netlist.specs.Places.{Order, Puts, PutsAll, firstOrder}
 
 pub record Board : Type 0 where

@@ -1,10 +1,10 @@
 -- What a netlist is: signals, what drives each, and which feed which.
 use mathlib.Core.Bool.{Bool, true, false}
 use mathlib.Core.List.{List, [], _∷_}
-use mathlib.Core.Logic.{_⊎_}
 use mathlib.Core.Path.{_≡_}
 use Prim.Native.Nat.{ℕ, zero, suc, _≤_}
 use lib.ListN.{getD, replicate}
+use Rattle.reach.specs.Reach.{Among}
 
 -- absent; an input; a gate, by its table and the signal that each pin is on; a latch, by its start value and the signal that its pin is on
 pub data Driver : Type 0 where
@@ -42,10 +42,6 @@ feeders absent = []
 feeders input = []
 feeders (gate table pins) = pins
 feeders (latch start pin) = []
-
-abbrev pub Among : ℕ → List ℕ → Type 0
-Among y [] = ⊥
-Among y (x ∷ xs) = (y ≡ x) ⊎ Among y xs
 
 -- a pin of gate s is on a
 abbrev pub Feeds : Netlist → ℕ → ℕ → Type 0

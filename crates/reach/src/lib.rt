@@ -1,3 +1,4 @@
+// One search over any relation on numbers, with flags that are always given back clean.
 mod fill;
 mod path;
 mod queue;

@@ -18,7 +18,7 @@ pub struct Queue {
 }
 
 impl Queue {
-    pub fn new() -> Self
+    pub(crate) fn new() -> Self
         ensures { λ r. ⌜ listed r ≡ [] ⌝ }
     {
         Queue {
@@ -28,19 +28,19 @@ impl Queue {
         }
     }
 
-    pub fn clear(&mut self)
+    pub(crate) fn clear(&mut self)
         ensures { λ _. ⌜ listed (now (self .exit)) ≡ [] ⌝ }
     {
         self.len = 0;
     }
 
-    pub fn len(&self) -> u32
+    pub(crate) fn len(&self) -> u32
         ensures { λ r. ⌜ r ≡ now (self .entry) .len ⌝ }
     {
         self.len
     }
 
-    pub fn number(&self, place: u32) -> u32
+    pub(crate) fn number(&self, place: u32) -> u32
         requires { ⌜ place < 1024 ⌝ }
         ensures { λ r. ⌜ r ≡ getD (now (self .entry) .numbers) place 0 ⌝ }
     {
@@ -48,7 +48,7 @@ impl Queue {
     }
 
     // One number more, told by the one at the place `teller`.
-    pub fn push(&mut self, number: u32, teller: u32)
+    pub(crate) fn push(&mut self, number: u32, teller: u32)
         requires { ⌜ now self .len < 1024 ⌝ }
         ensures { λ _. ⌜ listed (now (self .exit)) ≡ listed (now (self .entry)) ++ (number ∷ getD (listed (now (self .entry))) teller []) ∷ [] ⌝ }
     {
@@ -58,7 +58,7 @@ impl Queue {
     }
 
     // The place of a number that was found.
-    pub fn place_of(&self, number: u32) -> Option<u32>
+    pub(crate) fn place_of(&self, number: u32) -> Option<u32>
         ensures { λ r. ⌜ Cases r (now (self .entry) .len ≤ 1024 → trailAt number (listed (now (self .entry))) ≡ []) (λ k. (k < now (self .entry) .len) × (k < 1024) × (getD (listed (now (self .entry))) k [] ≡ trailAt number (listed (now (self .entry))))) ⌝ }
     {
         for place in 0..self.len.min(1024) {
@@ -82,7 +82,7 @@ impl Queue {
     }
 
     // The path to the number at a place, walked back from teller to teller.
-    pub fn path(&self, place: u32) -> Path
+    pub(crate) fn path(&self, place: u32) -> Path
         requires { ⌜ place < now self .len ⌝ ∗ ⌜ place < 1024 ⌝ }
         ensures { λ r. ⌜ along r ≡ reverse (getD (listed (now (self .entry))) place []) ⌝ }
     {
@@ -95,7 +95,7 @@ impl Queue {
     }
 
     // The path from the start of a search to a number that it reached.
-    pub fn path_to(&self, number: u32) -> Option<Path>
+    pub(crate) fn path_to(&self, number: u32) -> Option<Path>
         ensures { λ r. ⌜ PathTo number (listed (now (self .entry))) r ⌝ }
     {
         match self.place_of(number) {

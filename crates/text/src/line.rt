@@ -33,7 +33,7 @@ const COMMENT: u8 = b'#';
 const LONGEST: usize = 32;
 
 // How many bytes stand before the first mark: all where there is none.
-pub fn length_before(bytes: &[u8], marks: [u8; 2]) -> usize
+pub(crate) fn length_before(bytes: &[u8], marks: [u8; 2]) -> usize
     ensures value { λ r. ⌜ r ≡ upto (marked (getD marks 0 0) (getD marks 1 0)) (now (bytes .entry)) ⌝ }
     ensures within { λ r. ⌜ r ≤ length (now (bytes .entry)) ⌝ }
 {
@@ -181,7 +181,7 @@ fn first_fault(bytes_serve: bool, words_serve: bool) -> Option<TextFault>
 }
 
 // The words of one line whose first byte stands at `place`, or what is wrong with it.
-pub fn words_of<'a, T: Text>(
+pub(crate) fn words_of<'a, T: Text>(
     heap: Global,
     bytes: &'a [u8],
     place: usize,
