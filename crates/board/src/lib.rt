@@ -1,4 +1,6 @@
 // A board kept in the words of a store: its fields, and the chain of the pins on each signal.
+#![tactic(auto)]
+
 mod access;
 mod chain;
 mod fanout;

@@ -1,4 +1,6 @@
 // The worked cases of edits, covers and names hold of the rules.
+#![tactic(auto)]
+
 ghost use Rattle.cases.specs.Cases.{WorkedCases};
 
 pub fn all_cases_hold()

@@ -1,4 +1,6 @@
 // Plays calls from standard input on an editor over the store that its argument names, and prints a line for each.
+#![tactic(auto)]
+
 mod command;
 mod failure;
 mod lines;

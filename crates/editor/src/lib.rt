@@ -1,4 +1,6 @@
 // The netlist editor over any store: edits, batches, marks and questions.
+#![tactic(auto)]
+
 mod batch;
 mod call;
 mod editor;

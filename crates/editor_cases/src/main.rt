@@ -1,4 +1,6 @@
 // Editors over both stores against the rules on plain lists: tables of calls, edges, and random runs.
+#![tactic(auto)]
+
 mod board;
 mod both;
 mod call;

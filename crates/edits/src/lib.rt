@@ -1,4 +1,6 @@
 // The six edits on a board that is kept in the words of a store.
+#![tactic(auto)]
+
 mod checks;
 mod enter;
 mod make;

@@ -1,4 +1,6 @@
 // The names of a netlist: that of the model, and those of the signals, numbered as they appear.
+#![tactic(auto)]
+
 mod faults;
 mod table;
 

@@ -1,4 +1,6 @@
 // The program, for now a bench for the libraries below the editor: it plays commands on the two stores, or checks a text.
+#![tactic(auto)]
+
 mod store_mode;
 mod text_mode;
 

@@ -1,4 +1,6 @@
 // The rules of the netlist editor: signals, pins, places and edits. What they mean is in specs/.
+#![tactic(auto)]
+
 mod edit;
 mod laws;
 

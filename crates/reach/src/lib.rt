@@ -1,4 +1,6 @@
 // One search over any relation on numbers, with flags that are always given back clean.
+#![tactic(auto)]
+
 mod fill;
 mod path;
 mod queue;

@@ -1,4 +1,6 @@
 // Runs the search over a few graphs, and compares it with the closure of the same edges.
+#![tactic(auto)]
+
 mod client;
 mod closure;
 mod compare;

@@ -1,4 +1,6 @@
 // How long a level takes: open, 20 writes and drop or keep, on both stores. The times go to standard error.
+#![tactic(auto)]
+
 use anyhow::anyhow;
 use std::time::Instant;
 use words::{InverseLog, Snapshot, Store};

@@ -1,4 +1,6 @@
 // Both stores against a plain list of images: the edges, deep nesting, and random sequences of commands.
+#![tactic(auto)]
+
 mod plain;
 mod sequence;
 

@@ -1,4 +1,6 @@
 // Commands for a store of words, as text lines, and their play on two stores at once.
+#![tactic(auto)]
+
 mod command;
 mod player;
 

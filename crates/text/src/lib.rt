@@ -1,4 +1,6 @@
 // Texts, line by line and word by word.
+#![tactic(auto)]
+
 mod faults;
 mod kinds;
 mod laws;

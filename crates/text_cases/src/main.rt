@@ -1,4 +1,6 @@
 // Shows what the reader, the numbers and the name table make of some texts.
+#![tactic(auto)]
+
 use names::{NameFault, NameTable};
 use std::alloc::Global;
 use std::io;

@@ -1,4 +1,6 @@
 // The store of words: N words of 32 bits that can be taken back exactly, level by level.
+#![tactic(auto)]
+
 mod inverse_log;
 mod memory;
 mod snapshot;
