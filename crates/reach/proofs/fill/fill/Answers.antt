@@ -12,8 +12,8 @@ returns g c =
     queue.len c.loop-place.invariant.0 c.loop-place.invariant.1 (length-trails queue.numbers queue.tellers queue.len)
     (omega (arith, c.loop-place-test.false, c.len.ensures))
 
-pub hear-all-requires : goal.hear-all-requires
-hear-all-requires g c =
+pub hear_all-requires : goal.hear_all-requires
+hear_all-requires g c =
     let queue = c.loop-place.queue in
     record {
       listed = omega (arith, c.loop-place-test.true, c.len.ensures);

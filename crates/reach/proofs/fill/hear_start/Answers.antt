@@ -8,7 +8,7 @@ note-requires c = stand_begins 1024 _ _ refl c.requires.clear c.requires.empty
 pub returns-then-note : goal.returns-then-note
 returns-then-note c = λ next.
     start-new next c.args.start c.args.sought _ _ _ c.requires.empty c.note.ensures.heard c.note.ensures.stand c.if-note.ensures.new
-    c.is-sought.result c.is-sought.ensures
+    c.is_sought.result c.is_sought.ensures
 
 pub returns-else-note : goal.returns-else-note
 returns-else-note c = λ next.

@@ -3,8 +3,8 @@ use Rattle.std.proofs.lemmas.Result.{err_from_is_err_and}
 use Rattle.table.specs.declared.shape.Output.TheVariants.{Zero, One}
 use Rattle.table.proofs.cover.parsed.Goals as goal
 
-pub returns-in-err-output : goal.returns-in-err-output
-returns-in-err-output c =
-    let p = err_from_is_err_and c.from-residual.result c.from-residual.ensures.1 in
-    let told = c.in-err-output.ensures in
+pub returns-in_err-output : goal.returns-in_err-output
+returns-in_err-output c =
+    let p = err_from_is_err_and c.from_residual.result c.from_residual.ensures.1 in
+    let told = c.in_err-output.ensures in
     rw (p.1, p.2) (told.0, λ formed. ⊎_elim (told.1 Zero) (told.1 One) formed.ends)

@@ -6,6 +6,6 @@ use Rattle.text.proofs.line.put.Goals as goal
 
 pub returns : goal.returns
 returns g c =
-    let pushed = c.in-ok-push.ensures.items in
+    let pushed = c.in_ok-push.ensures.items in
     ap (map spelled) pushed ∙ map_push spelled (vec_items c.args.words.now) c.args.word
-    ∙ ap (λ l. map spelled (vec_items c.args.words.now) ++ l) (sym (cond-true (is_word_lem g.T.Text.rules c.args.word.bytes.now) (spelled c.args.word ∷ []) [] (sym c.if-not-is-word.ensures)))
+    ∙ ap (λ l. map spelled (vec_items c.args.words.now) ++ l) (sym (cond-true (is_word_lem g.T.Text.rules c.args.word.bytes.now) (spelled c.args.word ∷ []) [] (sym c.if-not-is_word.ensures)))

@@ -6,6 +6,6 @@ use Rattle.text.proofs.line.without_comment.Goals as goal
 pub returns : goal.returns
 returns c =
     record {
-      value = ap (λ j. take j c.args.bytes.now) (sub-zero c.content-length.result ∙ c.content-length.ensures.value) ∙ shown_is c.args.bytes.now;
+      value = ap (λ j. take j c.args.bytes.now) (sub-zero c.content_length.result ∙ c.content_length.ensures.value) ∙ shown_is c.args.bytes.now;
       len = simp length-take (omega arith);
     }

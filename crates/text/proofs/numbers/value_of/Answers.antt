@@ -3,8 +3,8 @@ use Rattle.text.specs.Decimal.{value}
 use Rattle.text.proofs.Digits.{value_more, digit_more, value_all, below_more}
 use Rattle.text.proofs.numbers.value_of.Goals as goal
 
-pub overflow-sub-d : goal.overflow-sub-d
-overflow-sub-d c = (digit_more c.args.digits.now c.loop-d.d-index (omega arith) c.loop-d.invariant.1).0
+pub overflow_sub-d : goal.overflow_sub-d
+overflow_sub-d c = (digit_more c.args.digits.now c.loop-d.d-index (omega arith) c.loop-d.invariant.1).0
 
 pub loop-d-preserved : goal.loop-d-preserved
 loop-d-preserved c =

@@ -5,6 +5,6 @@ use Rattle.reach.proofs.search.Search.contains.Goals as goal
 pub returns : goal.returns
 returns c =
     record {
-      flag = c.is-marked.ensures;
-      reached = λ next start searched. flag_answers next start _ (listed c.args.self.now.queue) searched c.args.number _ c.is-marked.ensures;
+      flag = c.is_marked.ensures;
+      reached = λ next start searched. flag_answers next start _ (listed c.args.self.now.queue) searched c.args.number _ c.is_marked.ensures;
     }

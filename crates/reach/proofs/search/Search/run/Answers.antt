@@ -4,8 +4,8 @@ use Rattle.reach.proofs.Listed.{length-trails}
 use Rattle.reach.proofs.Answered.{met_some, met_shown}
 use Rattle.reach.proofs.search.Search.run.Goals as goal
 
-pub overflow-sub-len : goal.overflow-sub-len
-overflow-sub-len g c =
+pub overflow_sub-len : goal.overflow_sub-len
+overflow_sub-len g c =
     let queue = c.fill.new.queue in
     omega (arith, c.len.ensures, met_some c.args.sought (listed queue) queue.len (length-trails queue.numbers queue.tellers queue.len) c.if-fill.ensures.met)
 

@@ -4,23 +4,23 @@ use Rattle.table.specs.Cover.{Refuses}
 use Rattle.table.specs.Line.{Line, Formed}
 use Rattle.table.proofs.shape.Cover.line.Goals as goal
 
-pub returns-in-err-self : goal.returns-in-err-self
-returns-in-err-self c =
+pub returns-in_err-self : goal.returns-in_err-self
+returns-in_err-self c =
     let line : Line = record { plane = c.args.plane.now; output = c.args.output.now } in
-    let p = err_from_is_err_and c.from-residual-in-err-self.result c.from-residual-in-err-self.ensures.1 in
-    let stands = c.in-ok-parsed.ensures in
+    let p = err_from_is_err_and c.from_residual-in_err-self.result c.from_residual-in_err-self.ensures.1 in
+    let stands = c.in_ok-parsed.ensures in
     rw (p.1, p.2) (record {
       same = (refl, refl);
       takes = λ lines read.
-          let joins = c.in-err-self.ensures.joins lines line read stands in
+          let joins = c.in_err-self.ensures.joins lines line read stands in
           subst (λ fault. Refuses c.args.self.now.pins lines line fault) (sym joins.0) (stands.formed, joins.1);
     })
 
 pub returns : goal.returns
 returns c =
     let line : Line = record { plane = c.args.plane.now; output = c.args.output.now } in
-    let stands = c.in-ok-parsed.ensures in
-    let told = c.in-ok-self.ensures in
+    let stands = c.in_ok-parsed.ensures in
+    let told = c.in_ok-self.ensures in
     record {
       same = (told.same, tt);
       takes = λ lines read.

@@ -4,8 +4,8 @@ use Rattle.table.specs.Cover.{Ends}
 use Rattle.table.proofs.Lines.{known_more, ends_first, ends_more, not_differs, no_differs}
 use Rattle.table.proofs.shape.Cover.with.Goals as goal
 
-pub invariant-of-result : goal.invariant-of-result
-invariant-of-result c = (c.args.self.few, (or_lt _ c.args.self.listed c.args.row.minterms c.args.self.fits c.requires, tt))
+pub invariant_of-result : goal.invariant_of-result
+invariant_of-result c = (c.args.self.few, (or_lt _ c.args.self.listed c.args.row.minterms c.args.self.fits c.requires, tt))
 
 pub returns : goal.returns
 returns c = record {

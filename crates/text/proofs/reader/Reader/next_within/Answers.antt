@@ -8,37 +8,37 @@ use Rattle.text.specs.Lines.{rest, Gives, holds, judged}
 use Rattle.text.proofs.Cuts.{Step, skips, gives_line, gives_fault, rest-none}
 use Rattle.text.proofs.reader.Reader.next_within.Given as given
 use Rattle.text.proofs.reader.Reader.next_within.Goals as goal
-use Rattle.text.proofs.reader.Reader.next_within.Goals.{After-words-of, After-advance}
+use Rattle.text.proofs.reader.Reader.next_within.Goals.{After-words_of, After-advance}
 
 -- the text, what is left of it, and its next line, as the code cuts them
-abbrev text : (g : given.Over) (c : After-words-of g) → List ℕ
+abbrev text : (g : given.Over) (c : After-words_of g) → List ℕ
 text g c = c.args.self.now.text.now
 
-abbrev after : (g : given.Over) (c : After-words-of g) → List ℕ
+abbrev after : (g : given.Over) (c : After-words_of g) → List ℕ
 after g c = take (length (text g c) - c.loop-self.self.place) (drop c.loop-self.self.place (text g c))
 
-step : (g : given.Over) (c : After-words-of g) (n : ℕ) → n ≡ Prim.Native.Nat.min (c.length-before-length.result + 1) (length (after g c)) → Step (text g c) c.loop-self.self.place c.length-before-length.result (c.loop-self.self.place + n) (after g c) (take (c.length-before-length.result - 0) (after g c))
+step : (g : given.Over) (c : After-words_of g) (n : ℕ) → n ≡ Prim.Native.Nat.min (c.length_before-length.result + 1) (length (after g c)) → Step (text g c) c.loop-self.self.place c.length_before-length.result (c.loop-self.self.place + n) (after g c) (take (c.length_before-length.result - 0) (after g c))
 step g c n e =
     record {
       is = take_rest (text g c) c.loop-self.self.place;
       inside = c.loop-self-test.true;
-      stops = c.length-before-length.ensures.value;
-      within = c.length-before-length.ensures.within;
-      cut = ap (λ j. take j (after g c)) (sub-zero c.length-before-length.result);
+      stops = c.length_before-length.ensures.value;
+      within = c.length_before-length.ensures.within;
+      cut = ap (λ j. take j (after g c)) (sub-zero c.length_before-length.result);
       on = ap (λ j. c.loop-self.self.place + j) e;
     }
 
-pub returns-in-err-words : goal.returns-in-err-words
-returns-in-err-words g c =
-    let d = (goal.at.returns-in-err-words g c).After-words-of in
+pub returns-in_err-words : goal.returns-in_err-words
+returns-in_err-words g c =
+    let d = (goal.at.returns-in_err-words g c).After-words_of in
     let k = g.T.Text.rules in
-    let p = err_from_is_err_and c.from-residual.result c.from-residual.ensures.1 in
+    let p = err_from_is_err_and c.from_residual.result c.from_residual.ensures.1 in
     let old = rest k (text g d) c.args.self.now.place c.args.self.now.line in
-    let told = gives_fault k c.loop-self.self.line (step g d _ refl) old c.loop-self.invariant.2 c.in-err-words.field-0.0 c.in-err-words.ensures in
+    let told = gives_fault k c.loop-self.self.line (step g d _ refl) old c.loop-self.invariant.2 c.in_err-words.field-0.0 c.in_err-words.ensures in
     record {
       text = c.loop-self.invariant.0;
       limit = c.loop-self.invariant.1;
-      gives = subst (λ t. Gives old (rest k t c.loop-self.self.place c.loop-self.self.line) c.from-residual.result) (sym c.loop-self.invariant.0) (subst (Gives old (rest k (text g d) c.loop-self.self.place c.loop-self.self.line)) (sym (p.1 ∙ ap Err p.2)) told);
+      gives = subst (λ t. Gives old (rest k t c.loop-self.self.place c.loop-self.self.line) c.from_residual.result) (sym c.loop-self.invariant.0) (subst (Gives old (rest k (text g d) c.loop-self.self.place c.loop-self.self.line)) (sym (p.1 ∙ ap Err p.2)) told);
     }
 
 -- where the reader stands after the line
@@ -50,15 +50,15 @@ moved g c =
     ∙ ap (λ j. rest k s.text.now j (c.loop-self.self.line + 1)) (sym c.advance.ensures.place)
     ∙ ap (λ j. rest k s.text.now s.place j) (sym c.advance.ensures.line)
 
-pub returns-then-not-is-empty : goal.returns-then-not-is-empty
-returns-then-not-is-empty g c =
-    let d = (goal.at.returns-then-not-is-empty g c).After-words-of in
-    let e = (goal.at.returns-then-not-is-empty g c).After-advance in
+pub returns-then-not-is_empty : goal.returns-then-not-is_empty
+returns-then-not-is_empty g c =
+    let d = (goal.at.returns-then-not-is_empty g c).After-words_of in
+    let e = (goal.at.returns-then-not-is_empty g c).After-advance in
     let k = g.T.Text.rules in
-    let v = c.in-ok-words.words in
+    let v = c.in_ok-words.words in
     let ws = map spelled (vec_items v) in
-    let some : 0 < length ws = omega (arith, length-map (vec_items v) spelled, v.ok.0, eqb-false _ 0 (sym c.if-not-is-empty.ensures)) in
-    let told = gives_line k c.loop-self.self.line (step g d c.min.result c.min.ensures) _ c.loop-self.invariant.2 ws c.in-ok-words.ensures some in
+    let some : 0 < length ws = omega (arith, length-map (vec_items v) spelled, v.ok.0, eqb-false _ 0 (sym c.if-not-is_empty.ensures)) in
+    let told = gives_line k c.loop-self.self.line (step g d c.min.result c.min.ensures) _ c.loop-self.invariant.2 ws c.in_ok-words.ensures some in
     record {
       text = c.advance.ensures.text ∙ c.loop-self.invariant.0;
       limit = c.advance.ensures.limit ∙ c.loop-self.invariant.1;
@@ -67,16 +67,16 @@ returns-then-not-is-empty g c =
 
 pub loop-self-preserved : goal.loop-self-preserved
 loop-self-preserved g c =
-    let d = (goal.at.loop-self-preserved g c).After-words-of in
+    let d = (goal.at.loop-self-preserved g c).After-words_of in
     let e = (goal.at.loop-self-preserved g c).After-advance in
-    let v = c.in-ok-words.words in
+    let v = c.in_ok-words.words in
     let text-is = c.advance.ensures.text ∙ c.loop-self.invariant.0 in
-    let empty : length (vec_items v) ≡ 0 = sym v.ok.0 ∙ eqb-true _ 0 (sym c.if-not-is-empty.ensures) in
+    let empty : length (vec_items v) ≡ 0 = sym v.ok.0 ∙ eqb-true _ 0 (sym c.if-not-is_empty.ensures) in
     let none : map spelled (vec_items v) ≡ [] = ap (map spelled) (nil_from_length (vec_items v) empty) in (
       text-is,
       c.advance.ensures.limit ∙ c.loop-self.invariant.1,
       ap (λ t. rest g.T.Text.rules t c.advance.new.self.place c.advance.new.self.line) (sym text-is) ∙ sym (moved g e)
-          ∙ skips g.T.Text.rules c.loop-self.self.line (step g d c.min.result c.min.ensures) _ c.loop-self.invariant.2 (c.in-ok-words.ensures ∙ ap Ok none),
+          ∙ skips g.T.Text.rules c.loop-self.self.line (step g d c.min.result c.min.ensures) _ c.loop-self.invariant.2 (c.in_ok-words.ensures ∙ ap Ok none),
     )
 
 pub returns : goal.returns

@@ -6,8 +6,8 @@ use Rattle.words.proofs.inverse_log.InverseLog.hand_down.Goals as goal
 pub returns-then-level-gt0 : goal.returns-then-level-gt0
 returns-then-level-gt0 c =
     let before = c.args.self.now in
-    let after = c.merge-down.new.self in
-    let h = c.merge-down.ensures in
+    let after = c.merge_down.new.self in
+    let h = c.merge_down.ensures in
     let level = before.depth - 1 in
     let depth : before.depth ≡ suc level = omega arith in
     let saved =

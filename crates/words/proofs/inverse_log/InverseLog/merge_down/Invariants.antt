@@ -7,4 +7,4 @@ invariant-loop-i l =
     Notes l.initial.self.size l.initial.self.limit (l.level - 1) (undo l.initial.self.words.now l.initial.self.size l.level l.i)
     l.initial.self.words.now l.initial.self.noted l.self.words.now l.self.noted
     × (l.self.size ≡ l.initial.self.size) × (l.self.limit ≡ l.initial.self.limit) × (l.self.depth ≡ l.initial.self.depth)
-    × (l.self.words.name ≡ l.initial.self.words.name)
+    × (l.self.words.ghost_name ≡ l.initial.self.words.ghost_name)

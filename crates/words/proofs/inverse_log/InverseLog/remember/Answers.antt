@@ -12,7 +12,7 @@ returns c =
           remembered c.args.self.now.words.now c.args.self.now.size c.args.self.now.limit c.args.self.now.depth c.args.self.now.noted (sound_of c.args.self.now)
           c.note.new.self.words.now c.note.new.self.noted (c.args.self.now.depth - 1) c.args.at _ depth refl (omega arith) c.note.ensures.notes;
       lent =
-          lent_notes c.args.self.now.words.name c.note.new.self.words.name c.args.self.now.size c.args.self.now.limit (c.args.self.now.depth - 1) _
+          lent_notes c.args.self.now.words.ghost_name c.note.new.self.words.ghost_name c.args.self.now.size c.args.self.now.limit (c.args.self.now.depth - 1) _
           c.args.self.now.words.now c.args.self.now.noted c.note.new.self.words.now c.note.new.self.noted c.note.ensures.lender c.note.ensures.notes;
       size = c.note.ensures.size;
       limit = c.note.ensures.limit;

@@ -8,8 +8,8 @@ use Rattle.words.proofs.inverse_log.InverseLog.take_back.Goals as goal
 pub returns : goal.returns
 returns c =
     let before = c.args.self.now in
-    let after = c.undo-notes.new.self in
-    let h = c.undo-notes.ensures in
+    let after = c.undo_notes.new.self in
+    let h = c.undo_notes.ensures in
     let level = before.depth - 1 in
     let depth : before.depth ≡ suc level = omega arith in
     let told =

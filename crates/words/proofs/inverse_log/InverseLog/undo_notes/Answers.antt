@@ -16,8 +16,8 @@ bounds-self-cell-in-loop-i c =
     let noted : c.loop-i.i - 1 < get_or c.loop-i.self.noted c.args.level 0 = omega (arith, ap (λ xs. get_or xs c.args.level 0) c.loop-i.invariant.5) in
     note_within c.loop-i.self (3 * c.args.level + 2) c.args.level (c.loop-i.i - 1) c.cell-in-loop-i.result used noted (omega arith) c.cell-in-loop-i.ensures
 
-pub invariant-of-self : goal.invariant-of-self
-invariant-of-self c =
+pub invariant_of-self : goal.invariant_of-self
+invariant_of-self c =
     let used : c.args.level < c.loop-i.self.depth = omega arith in
     let noted : c.loop-i.i - 1 < get_or c.loop-i.self.noted c.args.level 0 = omega (arith, ap (λ xs. get_or xs c.args.level 0) c.loop-i.invariant.5) in
     owed_taken c.loop-i.self c.args.level (c.loop-i.i - 1) c.cell.result c.cell-in-loop-i.result used noted c.cell.ensures c.cell-in-loop-i.ensures

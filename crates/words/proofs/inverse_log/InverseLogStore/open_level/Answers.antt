@@ -10,8 +10,8 @@ returns-then-self c =
       behind = refl;
     }
 
-pub invariant-of-self : goal.invariant-of-self
-invariant-of-self c =
+pub invariant_of-self : goal.invariant_of-self
+invariant_of-self c =
     owed_open c.args.self.now.words.now c.args.self.now.size c.args.self.now.limit c.args.self.now.depth c.args.self.now.noted (sound_of c.args.self.now) (omega arith) (omega arith)
 
 pub returns : goal.returns

@@ -8,5 +8,5 @@ pub returns : goal.returns
 returns c =
     let self = c.args.self.now in
     let within = wide_within self.words.now self.size self.limit in
-    told (snapshot_meaning self.words.now self.size self.limit self.depth) self.words.now c.part-size.result c.args.at c.word-at.result
-    (ap (λ n. take n self.words.now) (sym c.part-size.ensures)) (rw c.part-size.ensures within) c.word-at.ensures
+    told (snapshot_meaning self.words.now self.size self.limit self.depth) self.words.now c.part_size.result c.args.at c.word_at.result
+    (ap (λ n. take n self.words.now) (sym c.part_size.ensures)) (rw c.part_size.ensures within) c.word_at.ensures

@@ -13,14 +13,14 @@ returns-then-self c =
 pub save-requires : goal.save-requires
 save-requires c =
     let room = saves_room c.args.self.now.words.now c.args.self.now.size c.args.self.now.limit c.args.self.now.depth c.if-self.false in
-    rw c.part-size-size.ensures room
+    rw c.part_size-size.ensures room
 
 pub returns : goal.returns
 returns c =
     let ws = c.args.self.now.words.now in
     let level = c.args.self.now.depth in
-    let copied = c.save.ensures ∙ ap (λ n. paste ws ((level + 1) * n) ws n) c.part-size-size.ensures in
+    let copied = c.save.ensures ∙ ap (λ n. paste ws ((level + 1) * n) ws n) c.part_size-size.ensures in
     record {
       opens = opens ws c.args.self.now.size c.args.self.now.limit c.save.new.words level c.if-self.false copied;
-      behind = opens_lent ws c.args.self.now.size c.args.self.now.limit c.args.self.now.words.name c.save.new.words level c.if-self.false copied;
+      behind = opens_lent ws c.args.self.now.size c.args.self.now.limit c.args.self.now.words.ghost_name c.save.new.words level c.if-self.false copied;
     }

@@ -12,6 +12,6 @@ returns c =
           subst (λ ws. Sets (snapshot_meaning before.words.now before.size before.limit before.depth) (snapshot_meaning ws before.size before.limit before.depth) c.args.at c.args.word (Ok tt))
           (sym c.put.ensures) (sets before.words.now before.size before.limit before.depth c.args.at c.args.word (omega arith));
       behind =
-          ap (λ ws. snapshot_lent before.words.name ws before.size before.limit) c.put.ensures
+          ap (λ ws. snapshot_lent before.words.ghost_name ws before.size before.limit) c.put.ensures
           ∙ sets_lent before.words.now before.size before.limit before.words.ghost_name c.args.at c.args.word (omega arith);
     }
