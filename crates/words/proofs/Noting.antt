@@ -20,12 +20,18 @@ pub record Sound (ws : List ℕ) (n d k : ℕ) (noted : List ℕ) : Type 0 where
 
 -- the same, in the form in which they are owed
 abbrev pub Owed : List ℕ → ℕ → ℕ → ℕ → List ℕ → Type 0
-Owed ws n d k noted =
-    (n * (3 * d + 2) ≤ length ws) × ((n ≤ 65536) × ((d ≤ 8) × ((k ≤ d)
-    × (((level : ℕ) → level < k → get_or noted level 0 ≤ n) × (Within ws n k noted × (Placed ws n k noted × Unit {0}))))))
+Owed ws n d k noted = record {
+  room : n * (3 * d + 2) ≤ length ws;
+  few : n ≤ 65536;
+  low : d ≤ 8;
+  shallow : k ≤ d;
+  counted : (level : ℕ) → level < k → get_or noted level 0 ≤ n;
+  within : Within ws n k noted;
+  placed : Placed ws n k noted;
+}
 
 pub owed : (ws : List ℕ) (n d k : ℕ) (noted : List ℕ) → Sound ws n d k noted → Owed ws n d k noted
-owed ws n d k noted s = (s.room, (s.few, (s.low, (s.shallow, (s.counted, (s.within, (s.placed, tt)))))))
+owed ws n d k noted s = record { room = s.room; few = s.few; low = s.low; shallow = s.shallow; counted = s.counted; within = s.within; placed = s.placed }
 
 module _ (ws : List ℕ) (n d k : ℕ) (noted : List ℕ) (s : Sound ws n d k noted) where
   -- a word written where no note looks

@@ -5,7 +5,7 @@ use Rattle.table.proofs.Lines.{known_more, ends_first, ends_more, not_differs, n
 use Rattle.table.proofs.shape.Cover.with.Goals as goal
 
 pub invariant_of-result : goal.invariant_of-result
-invariant_of-result c = (c.args.self.few, (or_lt _ c.args.self.listed c.args.row.minterms c.args.self.fits c.requires, tt))
+invariant_of-result c = record { few = c.args.self.few; fits = or_lt _ c.args.self.listed c.args.row.minterms c.args.self.fits c.requires }
 
 pub returns : goal.returns
 returns c = record {
