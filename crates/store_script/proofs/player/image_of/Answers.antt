@@ -8,8 +8,8 @@ pub loop-at-preserved : goal.loop-at-preserved
 loop-at-preserved g c =
     let m = g.S.Store.model c.args.store.now in
     let below : c.loop-at.at < length m.image = omega arith in
-    let word = c.unwrap-or.ensures ∙ word-told m c.loop-at.at c.get.result below c.get.ensures in
-    pushed (c.unwrap-or.result ∷ []) c.loop-at.invariant c.in-ok-push.was c.push.ensures.items
+    let word = c.unwrap_or.ensures ∙ word-told m c.loop-at.at c.get.result below c.get.ensures in
+    pushed (c.unwrap_or.result ∷ []) c.loop-at.invariant c.in_ok-push.was c.push.ensures.items
     ∙ ap (λ w. take c.loop-at.at m.image ++ w ∷ []) word ∙ sym (take_more m.image c.loop-at.at 0 below)
 
 pub returns : goal.returns

@@ -7,15 +7,15 @@ returns-then-edge-eq0 g c =
     let f = c.args.self.now in
     rest-none f.layout.signals (g.S.Store.model f.store.now).image f.upto f.start c.args.edge (inl c.if-edge-eq0.true)
 
-pub returns-then-not-has-pin : goal.returns-then-not-has-pin
-returns-then-not-has-pin g c =
+pub returns-then-not-has_pin : goal.returns-then-not-has_pin
+returns-then-not-has_pin g c =
     let f = c.args.self.now in
     step-none f.layout.signals (g.S.Store.model f.store.now).image f.upto f.start c.args.edge
-    (sym c.has-pin.ensures ∙ c.if-not-has-pin.true)
+    (sym c.has_pin.ensures ∙ c.if-not-has_pin.true)
 
 pub returns : goal.returns
 returns g c =
     let f = c.args.self.now in
     step_some f.layout.signals (g.S.Store.model f.store.now).image f.upto f.start c.args.edge
-    c.next.result c.read-link.result c.gate-of.result c.upward.result c.if-edge-eq0.false
-    (sym c.has-pin.ensures ∙ c.if-not-has-pin.false) c.next.ensures c.read-link.ensures c.gate-of.ensures c.upward.ensures
+    c.next.result c.read-link.result c.gate_of.result c.upward.result c.if-edge-eq0.false
+    (sym c.has_pin.ensures ∙ c.if-not-has_pin.false) c.next.ensures c.read-link.ensures c.gate_of.ensures c.upward.ensures
