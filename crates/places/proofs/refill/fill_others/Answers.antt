@@ -34,7 +34,7 @@ loop-place-preserved g c =
     let read : c.read-signal.result ≡ word ws' (4 * m + c.loop-place.place) = c.read-signal.ensures ∙ ap (word ws') c.holder.ensures in
     let told = told-flagged c.args.search.now.flags.now c.read-signal.result c.moves.result c.moves.ensures in
     let inside : Range m ws c.args.low c.args.high → c.loop-place.place ≤ c.args.high =
-    λ range. omega (arith, range.within, range.few, c.loop-place-test.true, c.end-of-place-end.ensures.next (omega (arith, range.within, range.few))) in
+    λ range. omega (arith, range.within, range.few, c.loop-place-test.true, c.end_of-place-end.ensures.next (omega (arith, range.within, range.few))) in
     elim c.if-moves.branch [
       | then-moves w ↦
           rw (w.store-is, w.held-is, w.next-is) (
@@ -43,10 +43,10 @@ loop-place-preserved g c =
                 c.loop-place.auto.place (inside range) (c.loop-place.invariant.0 range) c.read-signal.result (held w.push.new.self) read
                 (told ∙ w.if-moves.true) w.push.ensures.one,
             omega (arith, c.loop-place.invariant.1, w.push.ensures.count),
-            omega (arith, c.loop-place-test.true, c.end-of-place-end.ensures.few),
+            omega (arith, c.loop-place-test.true, c.end_of-place-end.ensures.few),
             ap length w.push.ensures.one ∙ length_push (held c.loop-place.held) c.read-signal.result
                 ∙ omega (arith, c.loop-place.invariant.3, w.push.ensures.count),
-            omega (arith, c.loop-place.invariant.1, w.push.ensures.count, c.loop-place-test.true, c.end-of-place-end.ensures.few),
+            omega (arith, c.loop-place.invariant.1, w.push.ensures.count, c.loop-place-test.true, c.end_of-place-end.ensures.few),
             c.loop-place.invariant.5,
             c.loop-place.invariant.6,
             c.loop-place.invariant.7,
@@ -60,7 +60,7 @@ loop-place-preserved g c =
                 c.loop-place.auto.place (inside range) (c.loop-place.invariant.0 range) c.read-signal.result w.holder-else-moves.result read
                 (told ∙ w.if-moves.false) w.holder-else-moves.ensures),
             omega (arith, c.loop-place.invariant.1),
-            omega (arith, c.loop-place-test.true, c.end-of-place-end.ensures.few),
+            omega (arith, c.loop-place-test.true, c.end_of-place-end.ensures.few),
             c.loop-place.invariant.3,
             c.loop-place.invariant.4,
             ap (λ (t : Meaning). t.saved) w.write.ensures.writes ∙ c.loop-place.invariant.5,
@@ -73,7 +73,7 @@ pub returns : goal.returns
 returns g c =
     record {
       walked = λ range.
-          let next = c.end-of-place-end.ensures.next (omega (arith, range.within, range.few)) in
+          let next = c.end_of-place-end.ensures.next (omega (arith, range.within, range.few)) in
           let top : c.loop-place.place ≡ suc c.args.high =
           omega (arith, next, c.loop-place-test.false, c.loop-place.auto.place-end (omega (arith, next, range.upward))) in
           subst (λ p. Walked (flagged c.args.search.now.flags.now) c.args.layout.signals (g.S.Store.model c.args.store.now).image c.args.low (p - c.args.low)

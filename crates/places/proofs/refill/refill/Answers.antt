@@ -5,14 +5,14 @@ use Rattle.places.proofs.refill.refill.Goals as goal
 
 pub returns : goal.returns
 returns g c =
-    let back = c.fill-others-next.new.held in
+    let back = c.fill_others-next.new.held in
     record {
       fills = λ range.
           walked_all (flagged c.args.search.now.flags.now) c.args.layout.signals (g.S.Store.model c.args.store.now).image c.args.low
-          c.args.high range c.fill-others-next.result back.count (g.S.Store.model c.fill-others-next.new.store).image
-          (g.S.Store.model c.fill-held.new.store).image (held back) (c.fill-others-next.ensures.walked range)
-          c.fill-others-next.ensures.long c.fill-held.ensures.writes;
-      levels = c.fill-held.ensures.levels ∙ c.fill-others-next.ensures.levels;
-      limit = c.fill-held.ensures.limit ∙ c.fill-others-next.ensures.limit;
-      behind = c.fill-held.ensures.behind ∙ c.fill-others-next.ensures.behind;
+          c.args.high range c.fill_others-next.result back.count (g.S.Store.model c.fill_others-next.new.store).image
+          (g.S.Store.model c.fill_held.new.store).image (held back) (c.fill_others-next.ensures.walked range)
+          c.fill_others-next.ensures.long c.fill_held.ensures.writes;
+      levels = c.fill_held.ensures.levels ∙ c.fill_others-next.ensures.levels;
+      limit = c.fill_held.ensures.limit ∙ c.fill_others-next.ensures.limit;
+      behind = c.fill_held.ensures.behind ∙ c.fill_others-next.ensures.behind;
     }

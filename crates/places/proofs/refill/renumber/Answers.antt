@@ -13,7 +13,7 @@ loop-place-preserved g c =
       λ range perm.
           subst (Renumbered m ws c.args.low (c.loop-place.place + 1)) (sym (ap (λ (w : Meaning). w.image) wrote))
           (seated_more m ws c.args.low c.args.high range perm c.loop-place.place c.seat.result c.read-signal.result
-          (g.S.Store.model c.loop-place.store).image c.loop-place.auto.place (omega (arith, range.within, range.few, c.loop-place-test.true, c.end-of-place-end.ensures.next (omega (arith, range.within, range.few))))
+          (g.S.Store.model c.loop-place.store).image c.loop-place.auto.place (omega (arith, range.within, range.few, c.loop-place-test.true, c.end_of-place-end.ensures.next (omega (arith, range.within, range.few))))
           (c.loop-place.invariant.0 range perm) (c.read-signal.ensures ∙ ap (word (g.S.Store.model c.loop-place.store).image) c.holder.ensures) c.seat.ensures),
       ap (λ (w : Meaning). w.saved) wrote ∙ c.loop-place.invariant.1,
       ap (λ (w : Meaning). w.limit) wrote ∙ c.loop-place.invariant.2,
