@@ -48,9 +48,9 @@ returns-then-unranged g c = λ few sound. let m = g.S.Store.model c.args.store.n
       (λ lt _. absurd (omega arith)),
 )
 
-pub returns-then-driven-already : goal.returns-then-driven-already
-returns-then-driven-already g c = λ few sound. let m = g.S.Store.model c.args.store.now in (
-  driven (c.driven-already.ensures.0 c.if-driven-already.true),
+pub returns-then-driven_already : goal.returns-then-driven_already
+returns-then-driven_already g c = λ few sound. let m = g.S.Store.model c.args.store.now in (
+  driven (c.driven_already.ensures.0 c.if-driven_already.true),
   omega arith,
   no_less c.args.layout.signals (levels m) (netlist_of c.args.layout.signals m.image) c.args.edit 14 (omega arith)
       (λ _ z. absurd (omega (arith, c.levels.ensures)))
@@ -62,45 +62,45 @@ returns-then-driven-already g c = λ few sound. let m = g.S.Store.model c.args.s
       (λ lt _. absurd (omega arith)),
 )
 
-pub returns-then-wrong-kind : goal.returns-then-wrong-kind
-returns-then-wrong-kind g c = λ few sound. let m = g.S.Store.model c.args.store.now in (
-  wrong_kind (c.wrong_kind.ensures.0 c.if-wrong-kind.true),
+pub returns-then-wrong_kind : goal.returns-then-wrong_kind
+returns-then-wrong_kind g c = λ few sound. let m = g.S.Store.model c.args.store.now in (
+  wrong_kind (c.wrong_kind.ensures.0 c.if-wrong_kind.true),
   omega arith,
   no_less c.args.layout.signals (levels m) (netlist_of c.args.layout.signals m.image) c.args.edit 15 (omega arith)
       (λ _ z. absurd (omega (arith, c.levels.ensures)))
       (λ _. not_from_Decides c.beyond.result c.beyond.ensures c.if-beyond.false)
       (λ _. not_from_Decides c.unranged.result c.unranged.ensures c.if-unranged.false)
-      (λ _. not_from_Decides c.driven-already.result c.driven-already.ensures c.if-driven-already.false)
+      (λ _. not_from_Decides c.driven_already.result c.driven_already.ensures c.if-driven_already.false)
       (λ lt _. absurd (omega arith))
       (λ lt _. absurd (omega arith))
       (λ lt _. absurd (omega arith)),
 )
 
-pub returns-then-pin-beyond : goal.returns-then-pin-beyond
-returns-then-pin-beyond g c = λ few sound. let m = g.S.Store.model c.args.store.now in (
-  no_pin ((c.pin-beyond.ensures few sound).0 c.if-pin-beyond.true),
+pub returns-then-pin_beyond : goal.returns-then-pin_beyond
+returns-then-pin_beyond g c = λ few sound. let m = g.S.Store.model c.args.store.now in (
+  no_pin ((c.pin_beyond.ensures few sound).0 c.if-pin_beyond.true),
   omega arith,
   no_less c.args.layout.signals (levels m) (netlist_of c.args.layout.signals m.image) c.args.edit 16 (omega arith)
       (λ _ z. absurd (omega (arith, c.levels.ensures)))
       (λ _. not_from_Decides c.beyond.result c.beyond.ensures c.if-beyond.false)
       (λ _. not_from_Decides c.unranged.result c.unranged.ensures c.if-unranged.false)
-      (λ _. not_from_Decides c.driven-already.result c.driven-already.ensures c.if-driven-already.false)
-      (λ _. not_from_Decides c.wrong_kind.result c.wrong_kind.ensures c.if-wrong-kind.false)
+      (λ _. not_from_Decides c.driven_already.result c.driven_already.ensures c.if-driven_already.false)
+      (λ _. not_from_Decides c.wrong_kind.result c.wrong_kind.ensures c.if-wrong_kind.false)
       (λ lt _. absurd (omega arith))
       (λ lt _. absurd (omega arith)),
 )
 
-pub returns-then-still-used : goal.returns-then-still-used
-returns-then-still-used g c = λ few sound. let m = g.S.Store.model c.args.store.now in (
-  in_use ((c.still-used.ensures sound).0 c.if-still-used.true),
+pub returns-then-still_used : goal.returns-then-still_used
+returns-then-still_used g c = λ few sound. let m = g.S.Store.model c.args.store.now in (
+  in_use ((c.still_used.ensures sound).0 c.if-still_used.true),
   omega arith,
   no_less c.args.layout.signals (levels m) (netlist_of c.args.layout.signals m.image) c.args.edit 19 (omega arith)
       (λ _ z. absurd (omega (arith, c.levels.ensures)))
       (λ _. not_from_Decides c.beyond.result c.beyond.ensures c.if-beyond.false)
       (λ _. not_from_Decides c.unranged.result c.unranged.ensures c.if-unranged.false)
-      (λ _. not_from_Decides c.driven-already.result c.driven-already.ensures c.if-driven-already.false)
-      (λ _. not_from_Decides c.wrong_kind.result c.wrong_kind.ensures c.if-wrong-kind.false)
-      (λ _. not_from_Decides c.pin-beyond.result (c.pin-beyond.ensures few sound) c.if-pin-beyond.false)
+      (λ _. not_from_Decides c.driven_already.result c.driven_already.ensures c.if-driven_already.false)
+      (λ _. not_from_Decides c.wrong_kind.result c.wrong_kind.ensures c.if-wrong_kind.false)
+      (λ _. not_from_Decides c.pin_beyond.result (c.pin_beyond.ensures few sound) c.if-pin_beyond.false)
       (λ lt _. absurd (omega arith)),
 )
 
@@ -110,7 +110,7 @@ returns g c = λ few sound. let m = g.S.Store.model c.args.store.now in
     (λ _ z. absurd (omega (arith, c.levels.ensures)))
     (λ _. not_from_Decides c.beyond.result c.beyond.ensures c.if-beyond.false)
     (λ _. not_from_Decides c.unranged.result c.unranged.ensures c.if-unranged.false)
-    (λ _. not_from_Decides c.driven-already.result c.driven-already.ensures c.if-driven-already.false)
-    (λ _. not_from_Decides c.wrong_kind.result c.wrong_kind.ensures c.if-wrong-kind.false)
-    (λ _. not_from_Decides c.pin-beyond.result (c.pin-beyond.ensures few sound) c.if-pin-beyond.false)
-    (λ _. not_from_Decides c.still-used.result (c.still-used.ensures sound) c.if-still-used.false)
+    (λ _. not_from_Decides c.driven_already.result c.driven_already.ensures c.if-driven_already.false)
+    (λ _. not_from_Decides c.wrong_kind.result c.wrong_kind.ensures c.if-wrong_kind.false)
+    (λ _. not_from_Decides c.pin_beyond.result (c.pin_beyond.ensures few sound) c.if-pin_beyond.false)
+    (λ _. not_from_Decides c.still_used.result (c.still_used.ensures sound) c.if-still_used.false)

@@ -13,11 +13,11 @@ returns g c =
     ∙ (λ i. set (set ws (c.kind.ensures i) c.args.kind) (2 * m + s) c.args.value) in
     record {
       enters = λ w.
-          driver_entered m ws s c.args.pins c.args.nets w c.args.kind c.args.value (g.S.Store.model c.write-2.new.store).image headed (g.S.Store.model c.attach-all.new.store).image
-          (c.attach-all.ensures.attaches (still_wirable m ws s c.args.pins c.args.nets w c.args.kind c.args.value (g.S.Store.model c.write-2.new.store).image headed));
+          driver_entered m ws s c.args.pins c.args.nets w c.args.kind c.args.value (g.S.Store.model c.write-2.new.store).image headed (g.S.Store.model c.attach_all.new.store).image
+          (c.attach_all.ensures.attaches (still_wirable m ws s c.args.pins c.args.nets w c.args.kind c.args.value (g.S.Store.model c.write-2.new.store).image headed));
       inside = record {
-        levels = c.attach-all.ensures.inside.levels ∙ ap (λ x. x.saved) c.write-2.ensures.writes ∙ ap (λ x. x.saved) c.write.ensures.writes;
-        limit = c.attach-all.ensures.inside.limit ∙ ap (λ x. x.limit) c.write-2.ensures.writes ∙ ap (λ x. x.limit) c.write.ensures.writes;
+        levels = c.attach_all.ensures.inside.levels ∙ ap (λ x. x.saved) c.write-2.ensures.writes ∙ ap (λ x. x.saved) c.write.ensures.writes;
+        limit = c.attach_all.ensures.inside.limit ∙ ap (λ x. x.limit) c.write-2.ensures.writes ∙ ap (λ x. x.limit) c.write.ensures.writes;
       };
-      behind = c.attach-all.ensures.behind ∙ c.write-2.ensures.behind ∙ c.write.ensures.behind;
+      behind = c.attach_all.ensures.behind ∙ c.write-2.ensures.behind ∙ c.write.ensures.behind;
     }

@@ -10,8 +10,8 @@ returns g c =
     record {
       enters = λ site four lt.
           let low : s < 1024 = omega (arith, site.below, site.few) in
-          moved m ws s site c.args.pin c.pin-number-number.result c.args.net (g.S.Store.model c.release.new.store).image (g.S.Store.model c.attach.new.store).image
-          four lt (c.pin-number-number.ensures.number low four) c.release.ensures.releases c.attach.ensures.attaches;
+          moved m ws s site c.args.pin c.pin_number-number.result c.args.net (g.S.Store.model c.release.new.store).image (g.S.Store.model c.attach.new.store).image
+          four lt (c.pin_number-number.ensures.number low four) c.release.ensures.releases c.attach.ensures.attaches;
       inside = record { levels = c.attach.ensures.levels ∙ c.release.ensures.inside.levels; limit = c.attach.ensures.limit ∙ c.release.ensures.inside.limit };
       behind = c.attach.ensures.behind ∙ c.release.ensures.behind;
     }

@@ -6,43 +6,43 @@ pub returns-in-Placed : goal.returns-in-Placed
 returns-in-Placed g c =
     let m = c.args.layout.signals in
     let a = g.S.Store.model c.args.store.now in
-    let a₁ = g.S.Store.model c.open-level.new.self in
+    let a₁ = g.S.Store.model c.open_level.new.self in
     let a₂ = g.S.Store.model c.place.new.store in
-    let a₃ = g.S.Store.model c.keep-level.new.self in
+    let a₃ = g.S.Store.model c.keep_level.new.self in
     record {
       makes = λ w.
-          let checks = c.in-default.ensures w.few w.stands.sound in
-          made_accepted m a a₁ a₂ a₃ c.args.edit w checks c.open-level.result c.open-level.ensures.opens c.place.ensures.inside c.in-Placed.count c.keep-level.result
+          let checks = c.in_default.ensures w.few w.stands.sound in
+          made_accepted m a a₁ a₂ a₃ c.args.edit w checks c.open_level.result c.open_level.ensures.opens c.place.ensures.inside c.in-Placed.count c.keep_level.result
           (c.in-Placed.ensures.places w.few
-          (workable m a a₁ a₂ a₃ c.args.edit w checks c.open-level.result c.open-level.ensures.opens c.place.ensures.inside)
-          (passable m a a₁ a₂ a₃ c.args.edit w checks c.open-level.result c.open-level.ensures.opens c.place.ensures.inside))
-          c.keep-level.ensures.keeps;
+          (workable m a a₁ a₂ a₃ c.args.edit w checks c.open_level.result c.open_level.ensures.opens c.place.ensures.inside)
+          (passable m a a₁ a₂ a₃ c.args.edit w checks c.open_level.result c.open_level.ensures.opens c.place.ensures.inside))
+          c.keep_level.ensures.keeps;
       faults = λ w. tt;
       clean = c.place.ensures.clean;
-      behind = c.keep-level.ensures.behind ∙ c.place.ensures.behind ∙ c.open-level.ensures.behind;
+      behind = c.keep_level.ensures.behind ∙ c.place.ensures.behind ∙ c.open_level.ensures.behind;
     }
 
 pub returns-in-Looped : goal.returns-in-Looped
 returns-in-Looped g c =
     let m = c.args.layout.signals in
     let a = g.S.Store.model c.args.store.now in
-    let a₁ = g.S.Store.model c.open-level.new.self in
+    let a₁ = g.S.Store.model c.open_level.new.self in
     let a₂ = g.S.Store.model c.place.new.store in
-    let a₃ = g.S.Store.model c.drop-level.new.self in
+    let a₃ = g.S.Store.model c.drop_level.new.self in
     record {
       makes = λ w.
-          let checks = c.in-default.ensures w.few w.stands.sound in
-          made_looped m a a₁ a₂ a₃ c.args.edit w checks c.open-level.result c.open-level.ensures.opens c.place.ensures.inside c.in-Looped.path c.drop-level.result
+          let checks = c.in_default.ensures w.few w.stands.sound in
+          made_looped m a a₁ a₂ a₃ c.args.edit w checks c.open_level.result c.open_level.ensures.opens c.place.ensures.inside c.in-Looped.path c.drop_level.result
           (c.in-Looped.ensures.places w.few
-          (workable m a a₁ a₂ a₃ c.args.edit w checks c.open-level.result c.open-level.ensures.opens c.place.ensures.inside)
-          (passable m a a₁ a₂ a₃ c.args.edit w checks c.open-level.result c.open-level.ensures.opens c.place.ensures.inside))
-          c.drop-level.ensures.drops;
+          (workable m a a₁ a₂ a₃ c.args.edit w checks c.open_level.result c.open_level.ensures.opens c.place.ensures.inside)
+          (passable m a a₁ a₂ a₃ c.args.edit w checks c.open_level.result c.open_level.ensures.opens c.place.ensures.inside))
+          c.drop_level.ensures.drops;
       faults = λ w.
-          let checks = c.in-default.ensures w.few w.stands.sound in
-          loop-shown m a a₁ a₂ a₃ c.args.edit w checks c.open-level.result c.open-level.ensures.opens c.place.ensures.inside c.in-Looped.path
+          let checks = c.in_default.ensures w.few w.stands.sound in
+          loop-shown m a a₁ a₂ a₃ c.args.edit w checks c.open_level.result c.open_level.ensures.opens c.place.ensures.inside c.in-Looped.path
           (c.in-Looped.ensures.places w.few
-          (workable m a a₁ a₂ a₃ c.args.edit w checks c.open-level.result c.open-level.ensures.opens c.place.ensures.inside)
-          (passable m a a₁ a₂ a₃ c.args.edit w checks c.open-level.result c.open-level.ensures.opens c.place.ensures.inside));
+          (workable m a a₁ a₂ a₃ c.args.edit w checks c.open_level.result c.open_level.ensures.opens c.place.ensures.inside)
+          (passable m a a₁ a₂ a₃ c.args.edit w checks c.open_level.result c.open_level.ensures.opens c.place.ensures.inside));
       clean = c.place.ensures.clean;
-      behind = c.drop-level.ensures.behind ∙ c.place.ensures.behind ∙ c.open-level.ensures.behind;
+      behind = c.drop_level.ensures.behind ∙ c.place.ensures.behind ∙ c.open_level.ensures.behind;
     }

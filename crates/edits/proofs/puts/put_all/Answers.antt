@@ -9,7 +9,7 @@ pub loop-i-init : goal.loop-i-init
 loop-i-init g c = (
   λ r. so_far_none c.args.layout.signals (g.S.Store.model c.args.store.now).image c.args.gate c.args.count c.args.nets r,
   record { levels = refl; limit = refl },
-  c.clear-flags.ensures,
+  c.clear_flags.ensures,
   refl,
 )
 
@@ -26,9 +26,9 @@ returns-in-Looped g c =
           let among = net_among c.args.count c.args.nets c.loop-i.i four (omega arith) in
           let put = c.in-Looped.ensures.puts (placed_ready m ws c.args.gate (take c.args.count c.args.nets) (take c.loop-i.i c.args.nets) ws' c.loop-i.total r h.placed a among) in
           (a, among, subst (λ n. Loop n (along c.in-Looped.path)) h.placed.netlist put.1);
-      inside = record { levels = c.put-pin.ensures.levels ∙ c.loop-i.invariant.1.levels; limit = c.put-pin.ensures.limit ∙ c.loop-i.invariant.1.limit };
-      clean = c.put-pin.ensures.clean;
-      behind = c.put-pin.ensures.behind ∙ c.loop-i.invariant.3;
+      inside = record { levels = c.put_pin.ensures.levels ∙ c.loop-i.invariant.1.levels; limit = c.put_pin.ensures.limit ∙ c.loop-i.invariant.1.limit };
+      clean = c.put_pin.ensures.clean;
+      behind = c.put_pin.ensures.behind ∙ c.loop-i.invariant.3;
     }
 
 pub loop-i-preserved : goal.loop-i-preserved
@@ -36,11 +36,11 @@ loop-i-preserved g c =
     let m = c.args.layout.signals in
     let four : length c.args.nets ≡ 4 = search rules in (
       λ r.
-          so_far_more m (g.S.Store.model c.args.store.now).image c.args.gate c.args.count c.args.nets c.loop-i.i (g.S.Store.model c.loop-i.store).image (g.S.Store.model c.put-pin.new.store).image
-          c.loop-i.total c.in-Placed.moved c.saturating-add-total.result four (omega arith) r (c.loop-i.invariant.0 r) c.in-Placed.ensures.puts c.saturating-add-total.ensures,
-      record { levels = c.put-pin.ensures.levels ∙ c.loop-i.invariant.1.levels; limit = c.put-pin.ensures.limit ∙ c.loop-i.invariant.1.limit },
-      c.put-pin.ensures.clean,
-      c.put-pin.ensures.behind ∙ c.loop-i.invariant.3,
+          so_far_more m (g.S.Store.model c.args.store.now).image c.args.gate c.args.count c.args.nets c.loop-i.i (g.S.Store.model c.loop-i.store).image (g.S.Store.model c.put_pin.new.store).image
+          c.loop-i.total c.in-Placed.moved c.saturating_add-total.result four (omega arith) r (c.loop-i.invariant.0 r) c.in-Placed.ensures.puts c.saturating_add-total.ensures,
+      record { levels = c.put_pin.ensures.levels ∙ c.loop-i.invariant.1.levels; limit = c.put_pin.ensures.limit ∙ c.loop-i.invariant.1.limit },
+      c.put_pin.ensures.clean,
+      c.put_pin.ensures.behind ∙ c.loop-i.invariant.3,
     )
 
 pub returns : goal.returns
