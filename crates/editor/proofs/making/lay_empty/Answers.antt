@@ -6,10 +6,10 @@ pub returns : goal.returns
 returns g c =
     let a = g.S.Store.model c.args.store.now in
     let b = g.S.Store.model c.clear.new.store in
-    let d = g.S.Store.model c.seat-all.new.store in
+    let d = g.S.Store.model c.seat_all.new.store in
     let cleared = c.clear.ensures.clears in record {
-      lays = λ few room. empty_laid c.args.layout.signals a b d cleared c.seat-all.ensures.seats c.seat-all.ensures.long room;
-      inside = inside_both a b d cleared.inside c.seat-all.ensures.inside;
-      long = c.seat-all.ensures.long ∙ cleared.long;
-      behind = c.seat-all.ensures.behind ∙ c.clear.ensures.behind;
+      lays = λ few room. empty_laid c.args.layout.signals a b d cleared c.seat_all.ensures.seats c.seat_all.ensures.long room;
+      inside = inside_both a b d cleared.inside c.seat_all.ensures.inside;
+      long = c.seat_all.ensures.long ∙ cleared.long;
+      behind = c.seat_all.ensures.behind ∙ c.clear.ensures.behind;
     }

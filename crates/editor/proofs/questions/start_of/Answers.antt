@@ -8,6 +8,6 @@ returns-in-Latch g c =
     start-told c.args.layout.signals (g.S.Store.model c.args.store.now).image c.args.signal c.value.result c.read.result c.read.ensures c.value.ensures
     c.in-Latch.ensures
 
-pub returns-in-default : goal.returns-in-default
-returns-in-default g c =
-    no_start (driver_of (netlist_of c.args.layout.signals (g.S.Store.model c.args.store.now).image) c.args.signal) c.kind-at.result c.kind-at.ensures c.in-default.not-Latch
+pub returns-in_default : goal.returns-in_default
+returns-in_default g c =
+    no_start (driver_of (netlist_of c.args.layout.signals (g.S.Store.model c.args.store.now).image) c.args.signal) c.kind_at.result c.kind_at.ensures c.in_default.not-Latch

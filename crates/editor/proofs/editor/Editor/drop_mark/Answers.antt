@@ -8,11 +8,11 @@ pub returns : goal.returns
 returns g c =
     let m = c.args.self.now.signals in
     let a = g.S.Store.model c.args.self.now.store in
-    let a' = g.S.Store.model c.close-mark-dropping.new.store in
+    let a' = g.S.Store.model c.close_mark_dropping.new.store in
     record {
-      steps = steps_by m a DropMark a' (plain c.close-mark-dropping.result) (λ e q. let z : ◌≡◌ {A = ℕ} 0 1 = cc in absurd (omega arith)) (λ _ _. c.close-mark-dropping.ensures.replies m);
-      idle = idle_never m a DropMark a' (plain c.close-mark-dropping.result) c.if-self-eq0.false;
+      steps = steps_by m a DropMark a' (plain c.close_mark_dropping.result) (λ e q. let z : ◌≡◌ {A = ℕ} 0 1 = cc in absurd (omega arith)) (λ _ _. c.close_mark_dropping.ensures.replies m);
+      idle = idle_never m a DropMark a' (plain c.close_mark_dropping.result) c.if-self-eq0.false;
       signals = refl;
-      behind = c.close-mark-dropping.ensures.behind;
+      behind = c.close_mark_dropping.ensures.behind;
       shown = refl;
     }

@@ -10,12 +10,12 @@ returns g c =
     let m = c.args.self.now.signals in
     let l = c.layout-layout.result.signals in
     let a = g.S.Store.model c.args.self.now.store in
-    let a' = g.S.Store.model c.add-input.new.store in
+    let a' = g.S.Store.model c.add_input.new.store in
     record {
-      steps = steps_make l m a (Input c.args.signal) a' c.add-input.result c.layout-layout.ensures c.add-input.ensures.makes;
-      idle = idle_never m a (Make (Input c.args.signal)) a' c.add-input.result c.if-self-eq0.false;
+      steps = steps_make l m a (Input c.args.signal) a' c.add_input.result c.layout-layout.ensures c.add_input.ensures.makes;
+      idle = idle_never m a (Make (Input c.args.signal)) a' c.add_input.result c.if-self-eq0.false;
       signals = refl;
-      behind = c.add-input.ensures.behind;
-      shows = shows_early l m a (Input c.args.signal) c.add-input.result (shown_of c.clear.new.self) c.layout-layout.ensures c.add-input.ensures.early c.clear.ensures;
+      behind = c.add_input.ensures.behind;
+      shows = shows_early l m a (Input c.args.signal) c.add_input.result (shown_of c.clear.new.self) c.layout-layout.ensures c.add_input.ensures.early c.clear.ensures;
       hidden = λ _. c.clear.ensures;
     }

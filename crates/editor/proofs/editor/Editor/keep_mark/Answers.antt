@@ -8,11 +8,11 @@ pub returns : goal.returns
 returns g c =
     let m = c.args.self.now.signals in
     let a = g.S.Store.model c.args.self.now.store in
-    let a' = g.S.Store.model c.close-mark-keeping.new.store in
+    let a' = g.S.Store.model c.close_mark_keeping.new.store in
     record {
-      steps = steps_by m a KeepMark a' (plain c.close-mark-keeping.result) (λ e q. let z : ◌≡◌ {A = ℕ} 0 1 = cc in absurd (omega arith)) (λ _ _. c.close-mark-keeping.ensures.replies m);
-      idle = idle_never m a KeepMark a' (plain c.close-mark-keeping.result) c.if-self-eq0.false;
+      steps = steps_by m a KeepMark a' (plain c.close_mark_keeping.result) (λ e q. let z : ◌≡◌ {A = ℕ} 0 1 = cc in absurd (omega arith)) (λ _ _. c.close_mark_keeping.ensures.replies m);
+      idle = idle_never m a KeepMark a' (plain c.close_mark_keeping.result) c.if-self-eq0.false;
       signals = refl;
-      behind = c.close-mark-keeping.ensures.behind;
+      behind = c.close_mark_keeping.ensures.behind;
       shown = refl;
     }

@@ -8,11 +8,11 @@ pub returns : goal.returns
 returns g c =
     let m = c.args.self.now.signals in
     let a = g.S.Store.model c.args.self.now.store in
-    let a' = g.S.Store.model c.open-mark.new.store in
+    let a' = g.S.Store.model c.open_mark.new.store in
     record {
-      steps = steps_by m a Mark a' (plain c.open-mark.result) (λ e q. let z : ◌≡◌ {A = ℕ} 0 1 = cc in absurd (omega arith)) (λ _ _. c.open-mark.ensures.replies m);
-      idle = idle_never m a Mark a' (plain c.open-mark.result) c.if-self-eq0.false;
+      steps = steps_by m a Mark a' (plain c.open_mark.result) (λ e q. let z : ◌≡◌ {A = ℕ} 0 1 = cc in absurd (omega arith)) (λ _ _. c.open_mark.ensures.replies m);
+      idle = idle_never m a Mark a' (plain c.open_mark.result) c.if-self-eq0.false;
       signals = refl;
-      behind = c.open-mark.ensures.behind;
+      behind = c.open_mark.ensures.behind;
       shown = refl;
     }

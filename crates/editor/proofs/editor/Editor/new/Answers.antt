@@ -5,8 +5,8 @@ use Rattle.std.proofs.lemmas.Bool.{not-false}
 
 pub returns : goal.returns
 returns g c = record {
-  starts = starts c.args.signals (g.S.Store.model c.args.store) (g.S.Store.model c.lay-empty.new.store)
-      (c.fits.ensures.0 c.if-not-fits.false) c.lay-empty.ensures.inside c.lay-empty.ensures.lays;
+  starts = starts c.args.signals (g.S.Store.model c.args.store) (g.S.Store.model c.lay_empty.new.store)
+      (c.fits.ensures.0 c.if-not-fits.false) c.lay_empty.ensures.inside c.lay_empty.ensures.lays;
   shown = c.none-2.ensures;
-  behind = c.lay-empty.ensures.behind;
+  behind = c.lay_empty.ensures.behind;
 }
