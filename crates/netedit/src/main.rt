@@ -4,6 +4,7 @@
 mod store_mode;
 mod text_mode;
 
+use anyhow::anyhow;
 use std::env;
 use store_mode::{Shape, play_input};
 use text::{File, Script};
@@ -46,13 +47,13 @@ fn run(rt: &HostRuntime) -> anyhow::Result<()> {
     let first = arguments.next();
     let second = arguments.next();
     if arguments.next().is_some() {
-        return Err(USAGE.into());
+        return Err(anyhow!(USAGE));
     }
     match asked(as_text(&first), as_text(&second))? {
         Task::Play(shape) => play_input(rt, shape),
         Task::CheckFile => check_input::<File>(rt),
         Task::CheckScript => check_input::<Script>(rt),
-        Task::Unknown => Err(USAGE.into()),
+        Task::Unknown => Err(anyhow!(USAGE)),
     }
 }
 
