@@ -1,12 +1,11 @@
 -- The worked cases hold of the rules.
-use Rattle.std.proofs.Common.{◌≡◌, ℕ, zero, suc, ◌+◌, ◌<◌, ◌≤◌, Bool, true, false, cond, not, ◌||◌, eqb, ◌⊎◌, List, [], ◌∷◌, Ok, Err, sym, refl, ap, ◌∙◌, subst, inl, inr, ⊎_elim, arith}
+use Rattle.std.proofs.Common.{◌≡◌, ℕ, zero, suc, ◌<◌, ◌≤◌, Bool, ◌||◌, eqb, ◌⊎◌, [], ◌∷◌, sym, refl, subst, inl, inr, ⊎_elim, arith}
 use Rattle.std.proofs.lemmas.Bool.{or_cases, or_left, or_right, eqb-true, eq-eqb}
 use Rattle.reach.specs.Reach.{Among}
-use Rattle.netlist.specs.declared.edit.Edit.TheVariants.{Input, Output, Gate, Latch, Delete, Move}
-use Rattle.netlist.specs.declared.edit.Refusal.TheVariants.{Driven, Looped}
-use Rattle.netlist.specs.Netlist.{Netlist, Driver, absent, input, gate, latch, Feeds, Leads, here, onward, Loop}
-use Rattle.netlist.specs.Places.{Order, place, Ordered, Moves, Puts}
-use Rattle.netlist.specs.Edits.{Board, Edits, Applies, no_batch, no_signal, out_of_range, driven, wrong_kind, no_pin, in_use, looped, empty_board, asked}
+use Rattle.netlist.specs.declared.edit.Edit.TheVariants.{Input, Move}
+use Rattle.netlist.specs.Netlist.{absent, input, Feeds, Leads, here, onward, Loop}
+use Rattle.netlist.specs.Places.{Order, place, Ordered, Moves}
+use Rattle.netlist.specs.Edits.{Board, Applies, no_batch, no_signal, out_of_range, driven, wrong_kind, no_pin, in_use, looped, empty_board, asked}
 use Rattle.netlist.specs.Laws.{Worked, follower}
 use Rattle.netlist.proofs.Loops.{order-excludes-loops}
 

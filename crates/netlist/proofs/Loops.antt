@@ -1,6 +1,6 @@
 -- An order leaves no loop.
 use Rattle.std.proofs.Common.{ℕ, ◌<◌, List, [], ◌∷◌, arith}
-use Rattle.netlist.specs.Netlist.{Netlist, Feeds, Feeding, Loop}
+use Rattle.netlist.specs.Netlist.{Netlist, Feeding}
 use Rattle.netlist.specs.Places.{Order, place, Ordered}
 use Rattle.netlist.specs.Laws.{OrderExcludesLoops}
 

@@ -1,12 +1,12 @@
 -- What an edit asks for, when it is refused, and what it leaves.
-use Rattle.std.specs.Prelude.{◌≡◌, ℕ, ◌^◌, ◌<◌, ◌≤◌, Bool, true, false, ◌⊎◌, List, [], ◌∷◌, length, take, Ok, Err, Result, ◌==◌, slice_set}
+use Rattle.std.specs.Prelude.{◌≡◌, ℕ, ◌^◌, ◌<◌, ◌≤◌, true, ◌⊎◌, List, [], ◌∷◌, length, take, Ok, Err, Result, ◌==◌, slice_set}
 use Rattle.reach.specs.Reach.{Among}
 use Rattle.netlist.specs.declared.edit.Edit.{Edit}
 use Rattle.netlist.specs.declared.edit.Edit.TheVariants.{Input, Output, Gate, Latch, Delete, Move}
 use Rattle.netlist.specs.declared.edit.Refusal.{Refusal}
 use Rattle.netlist.specs.Refusals.{number}
-use Rattle.netlist.specs.Netlist.{Netlist, Driver, Signal, absent, input, gate, latch, driver_of, output_of_lem, pins_of_lem, Used, Loop, empty_netlist}
-use Rattle.netlist.specs.Places.{Order, Puts, PutsAll, first_order}
+use Rattle.netlist.specs.Netlist.{Netlist, Driver, absent, input, gate, latch, driver_of, output_of_lem, pins_of_lem, Used, Loop, empty_netlist}
+use Rattle.netlist.specs.Places.{Order, PutsAll, first_order}
 
 pub record Board : Type 0 where
   pub netlist : Netlist

@@ -1,7 +1,7 @@
 -- Theorems about the rules of edits.
 use Rattle.std.specs.Prelude.{◌≡◌, ℕ, List, [], ◌∷◌, Ok, Err, Result}
 use Rattle.netlist.specs.declared.edit.Edit.{Edit}
-use Rattle.netlist.specs.declared.edit.Edit.TheVariants.{Input, Output, Gate, Latch, Delete, Move}
+use Rattle.netlist.specs.declared.edit.Edit.TheVariants.{Input, Gate, Move}
 use Rattle.netlist.specs.declared.edit.Refusal.{Refusal}
 use Rattle.netlist.specs.declared.edit.Refusal.TheVariants.{Driven, Looped}
 use Rattle.netlist.specs.Netlist.{Netlist, Loop}

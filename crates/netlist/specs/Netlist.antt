@@ -1,5 +1,5 @@
 -- What a netlist is: signals, what drives each, and which feed which.
-use Rattle.std.specs.Prelude.{◌≡◌, ℕ, zero, suc, ◌≤◌, Bool, true, false, List, [], ◌∷◌, replicate, ◌≢◌, slice_index_or}
+use Rattle.std.specs.Prelude.{◌≡◌, ℕ, Bool, true, false, List, [], ◌∷◌, replicate, ◌≢◌, slice_index_or}
 use Rattle.reach.specs.Reach.{Among}
 
 -- absent; an input; a gate, by its table and the signal that each pin is on; a latch, by its start value and the signal that its pin is on

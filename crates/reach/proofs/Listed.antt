@@ -1,5 +1,5 @@
 -- The trails that two lists of numbers hold.
-use Rattle.std.proofs.Common.{◌≡◌, ℕ, zero, suc, ◌+◌, ◌<◌, ◌≤◌, min, Bool, eqb, ◌≢◌, ◌⊎◌, List, [], ◌∷◌, ◌++◌, reverse, length, get_or, drop, set, sym, refl, ap, ◌∙◌, ⊎_elim, append_assoc, add-one, arith}
+use Rattle.std.proofs.Common.{◌≡◌, ℕ, zero, suc, ◌+◌, ◌<◌, ◌≤◌, min, eqb, ◌≢◌, List, [], ◌∷◌, ◌++◌, reverse, length, get_or, drop, set, sym, refl, ap, ◌∙◌, ⊎_elim, append_assoc, add-one, arith}
 use mathlib.Core.List.{reverse-cons}
 use Rattle.std.proofs.lemmas.List.{drop_all, get_or_past, get_or_append_left, get_or_push, length_push, get_or-set_same, get_or-set_other}
 use Rattle.std.proofs.lemmas.Bool.{cases_lt, eq-eqb, ne_eqb, cond-true, cond-false}

@@ -1,7 +1,7 @@
 -- Every trail that is found is, turned round, a way from the start; and the way that is shown is one of them.
-use Rattle.std.proofs.Common.{◌≡◌, ℕ, zero, suc, ◌+◌, ◌<◌, Bool, true, false, cond, eqb, ltb, ◌⊎◌, List, [], ◌∷◌, ◌++◌, reverse, length, sym, refl, ap, ◌∙◌, subst, inl, inr, ⊎_elim, arith}
+use Rattle.std.proofs.Common.{◌≡◌, ℕ, zero, suc, ◌<◌, Bool, true, false, cond, eqb, ltb, ◌⊎◌, List, [], ◌∷◌, ◌++◌, reverse, length, sym, refl, ap, ◌∙◌, subst, inl, inr, ⊎_elim, arith}
 use mathlib.Core.List.{reverse-cons}
-use Rattle.std.specs.List.{AllByRecursion as All}
+use Rattle.std.specs.List.{AllByRecursion}
 use Rattle.std.proofs.lemmas.List.{get_or_past}
 use Rattle.std.proofs.ByRecursion.{All-push, All-get_or}
 use Rattle.std.proofs.lemmas.Bool.{eqb-true, lt-ltb, cases_Bool, both_ways, cases_lt}
@@ -27,25 +27,25 @@ module _ (next : ℕ → List ℕ) where
 
   module _ (start : ℕ) where
     one_leads : (t : List ℕ) (y : ℕ) (found : List (List ℕ)) (b : Bool) → is_new y found ≡ b → (y < 1024 → Leads start (y ∷ t)) →
-        All (Leads start) found → All (Leads start) (cond b (found ++ (y ∷ t) ∷ []) found)
+        AllByRecursion (Leads start) found → AllByRecursion (Leads start) (cond b (found ++ (y ∷ t) ∷ []) found)
     one_leads t y found true e l all = All-push (Leads start) found (y ∷ t) all (l (new_small y found e))
     one_leads t y found false e l all = all
 
     hear-leads : (t ys : List ℕ) (found : List (List ℕ)) → ((y : ℕ) → y < 1024 → Among y ys → Leads start (y ∷ t)) →
-        All (Leads start) found → All (Leads start) (hear t ys found)
+        AllByRecursion (Leads start) found → AllByRecursion (Leads start) (hear t ys found)
     unfolding hear
     hear-leads t [] found l all = all
     hear-leads t (y ∷ ys) found l all =
         hear-leads t ys _ (λ z lt a. l z lt (inr a)) (one_leads t y found (is_new y found) refl (λ lt. l y lt (inl refl)) all)
 
-    tell-leads : (t : List ℕ) (found : List (List ℕ)) → (t ≡ []) ⊎ Leads start t → All (Leads start) found → All (Leads start) (tell next t found)
+    tell-leads : (t : List ℕ) (found : List (List ℕ)) → (t ≡ []) ⊎ Leads start t → AllByRecursion (Leads start) found → AllByRecursion (Leads start) (tell next t found)
     unfolding tell
     tell-leads [] found c all = all
     tell-leads (x ∷ t) found (inl e) all = let z : ◌≡◌ {A = ℕ} 0 1 = cc in absurd (omega arith)
     tell-leads (x ∷ t) found (inr l) all = hear-leads (x ∷ t) (next x) found (λ y lt a. leads_on start x y t l (lt, a)) all
 
     -- Soundness: every trail leads back to the start
-    pub rounds_lead : (n : ℕ) → All (Leads start) (rounds next start n)
+    pub rounds_lead : (n : ℕ) → AllByRecursion (Leads start) (rounds next start n)
     unfolding rounds
     rounds_lead zero = hear-leads [] (start ∷ []) [] (λ y lt a. ⊎_elim (λ e. from y lt e) (λ z. absurd z) a) tt
       where
@@ -60,7 +60,7 @@ module _ (next : ℕ → List ℕ) where
         (rounds_lead n)
 
     -- the trail at a number that is found leads back from it
-    pub at_leads : (y : ℕ) (found : List (List ℕ)) → y < 1024 → is_new y found ≡ false → All (Leads start) found →
+    pub at_leads : (y : ℕ) (found : List (List ℕ)) → y < 1024 → is_new y found ≡ false → AllByRecursion (Leads start) found →
         Reach next start y × Way next start y (reverse (trail_at y found))
     unfolding is_new trail_at
     at_leads y [] lt e all = absurd (both_ways (ltb y 1024) e (lt-ltb y 1024 lt))

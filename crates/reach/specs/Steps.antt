@@ -1,5 +1,5 @@
 -- What a search keeps from step to step.
-use Rattle.std.specs.Prelude.{◌≡◌, ℕ, ◌+◌, ◌<◌, ◌≤◌, Bool, true, cond, List, [], ◌∷◌, ◌++◌, length, IfSome, Option, MatchOption, nat_lt, slice_index, slice_index_or}
+use Rattle.std.specs.Prelude.{◌≡◌, ℕ, ◌+◌, ◌<◌, ◌≤◌, true, cond, List, [], ◌∷◌, ◌++◌, length, IfSome, Option, MatchOption, nat_lt, slice_index, slice_index_or}
 use Rattle.reach.specs.Order.{is_new, hear, rounds, order, More}
 use Rattle.reach.specs.Flags.{zeros}
 

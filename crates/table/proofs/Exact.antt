@@ -1,6 +1,6 @@
 -- What stops a reading is no cover, so a table's lines are read as that table.
 use Rattle.std.proofs.Common.{◌≡◌, ℕ, List, [], ◌∷◌, ◌++◌, Ok, Err, Result, sym, refl, subst, arith}
-use Rattle.std.specs.List.{ContainsAt as Has}
+use Rattle.std.specs.List.{ContainsAt}
 use Rattle.std.proofs.ByRecursion.{all-has, has_append_right}
 use Rattle.table.specs.declared.shape.Table.{Table}
 use Rattle.table.specs.declared.fault.CoverFault.{CoverFault}
@@ -13,7 +13,7 @@ use Rattle.table.specs.Reading.{Stops, Reads, ReadsTable}
 use Rattle.table.proofs.Ones.{reads-back, means_one_table}
 
 module _ (line : Line) (after : List Line) where
-  has_here : (before : List Line) → Has (before ++ line ∷ after) line
+  has_here : (before : List Line) → ContainsAt (before ++ line ∷ after) line
   has_here before = has_append_right before (line ∷ after) line (0, omega arith, λ d. refl)
 
   alike_agrees : (before : List Line) → Alike (before ++ line ∷ after) → Differs before line → ⊥

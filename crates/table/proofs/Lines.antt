@@ -1,8 +1,8 @@
 -- What reading a line adds to what is known of a cover.
-use Rattle.std.proofs.Common.{◌≡◌, ℕ, ◌+◌, ◌-◌, ◌^◌, min, eqb, ◌⊎◌, List, [], ◌∷◌, ◌++◌, length, get_or, Some, None, codes, Option, sym, refl, ap, ◌∙◌, subst, inl, inr, ⊎_elim, arith, length-append}
+use Rattle.std.proofs.Common.{◌≡◌, ℕ, ◌^◌, eqb, List, [], ◌∷◌, ◌++◌, length, get_or, Some, None, codes, Option, sym, refl, ap, ◌∙◌, subst, inl, inr, ⊎_elim, arith, length-append}
 use lib.Bits.{bit_or, or_lt}
 use Rattle.std.proofs.lemmas.Bool.{cases_eq, eqb-true, eqb-false, eq-eqb, ne_eqb}
-use Rattle.std.specs.List.{ContainsAt as Has, AllByRecursion as All}
+use Rattle.std.specs.List.{ContainsAt, AllByRecursion}
 use Rattle.std.proofs.ByRecursion.{all-has, All-push, All-weaker, has_get_or, has_push, has_append_left, has_push_cases}
 use Rattle.table.specs.declared.shape.Output.{Output}
 use Rattle.table.specs.declared.shape.Output.TheVariants.{Zero, One}
@@ -28,14 +28,14 @@ written_once One One e = refl
 written_once Zero One e = absurd (both_outputs _ refl e)
 written_once One Zero e = absurd (both_outputs _ refl (sym e))
 
-pub ends_is : (output : Option Output) (lines : List Line) (line : Line) (o : Output) → Ends output lines → Has lines line → line.output ≡ written o → output ≡ Some o
+pub ends_is : (output : Option Output) (lines : List Line) (line : Line) (o : Output) → Ends output lines → ContainsAt lines line → line.output ≡ written o → output ≡ Some o
 ends_is None lines line o none has is = absurd (omega (arith, ap length none, has.1))
 ends_is (Some p) lines line o ends has is = ap Some (written_once p o (sym (all-has (λ x. x.output ≡ written p) lines line ends.1 has) ∙ is))
 
-ends_of : (output : Option Output) (lines : List Line) (line : Line) (o : Output) → output ≡ Some o → Ends output lines → Has lines line → line.output ≡ written o
+ends_of : (output : Option Output) (lines : List Line) (line : Line) (o : Output) → output ≡ Some o → Ends output lines → ContainsAt lines line → line.output ≡ written o
 ends_of output lines line o is ends has = all-has (λ x. x.output ≡ written o) lines line (subst (λ out. Ends out lines) is ends).1 has
 
-some_line : (output : Option Output) (lines : List Line) (o : Output) → output ≡ Some o → Ends output lines → (line : Line) × Has lines line
+some_line : (output : Option Output) (lines : List Line) (o : Output) → output ≡ Some o → Ends output lines → (line : Line) × ContainsAt lines line
 some_line output lines o is ends =
     let d : Line = record { plane = []; output = [] } in
     (get_or lines 0 d, has_get_or lines 0 d (subst (λ out. Ends out lines) is ends).0)
@@ -109,7 +109,7 @@ no_differs lines line none differs = subst (λ ls. Differs ls line) none differs
 alike_none : (lines : List Line) → lines ≡ [] → Alike lines
 alike_none lines none = subst Alike (sym none) tt
 
-pub alike_some : (lines : List Line) (output : Output) → All (λ line. line.output ≡ written output) lines → Alike lines
+pub alike_some : (lines : List Line) (output : Output) → AllByRecursion (λ line. line.output ≡ written output) lines → Alike lines
 alike_some [] output all = tt
 alike_some (first ∷ rest) output all =
     All-weaker (λ line. line.output ≡ written output) (λ line. line.output ≡ first.output) (λ line is. is ∙ sym all.0) rest all.1

@@ -1,7 +1,7 @@
 -- The 1-minterms of a table, and the lines written of them.
-use Rattle.std.proofs.Common.{◌≡◌, ℕ, zero, suc, ◌+◌, ◌-◌, ◌^◌, ◌<◌, ◌≤◌, true, cond, eqb, ◌⊎◌, List, [], ◌∷◌, ◌++◌, map, length, get_or, codes, filter, sym, refl, ap, ◌∙◌, subst, inl, inr, ⊎_elim, append-nil, add-zero, add-suc, add-one, arith}
+use Rattle.std.proofs.Common.{◌≡◌, ℕ, zero, suc, ◌+◌, ◌-◌, ◌^◌, ◌<◌, ◌≤◌, cond, eqb, List, [], ◌∷◌, ◌++◌, map, length, get_or, codes, filter, sym, refl, ap, ◌∙◌, subst, inl, inr, ⊎_elim, append-nil, add-zero, add-suc, add-one, arith}
 use lib.ListN.{length-map}
-use Rattle.std.specs.List.{range_with_len, ContainsAt as Has, AllByRecursion as All}
+use Rattle.std.specs.List.{range_with_len, ContainsAt, AllByRecursion}
 use Rattle.std.proofs.lemmas.List.FromFn.{length-map-range_with_len, get_or-map-range_with_len}
 use Rattle.std.proofs.lemmas.List.Elements.{filter-append}
 use Rattle.std.proofs.ByRecursion.{All-append, All-weaker, All-map, all-has, has_append_left, has_push}
@@ -9,7 +9,7 @@ use Rattle.std.proofs.lemmas.List.{get_or-map}
 use Rattle.std.proofs.lemmas.Bool.{eq-eqb, ne_eqb, cases_eq, cond-true, cond-false}
 use Rattle.table.specs.declared.shape.Output.TheVariants.{One}
 use Rattle.table.specs.Bit.{bit}
-use Rattle.table.specs.Line.{Line, Covers, Formed, IsCover, Means}
+use Rattle.table.specs.Line.{Line, Covers, Formed, IsCover}
 use Rattle.table.specs.Laws.{ReadsBack, MeansOne}
 use Rattle.table.specs.Written.{character_at, plane_at, ones_below, line_at, lines_of}
 use Rattle.table.proofs.Bit.{bit-lt, bits-same}
@@ -52,24 +52,24 @@ module _ (bits : ℕ) where
       → ones_below bits (one + 1) ≡ ones_below bits from ++ one ∷ []
   ones-next from one h is none = ap (ones_below bits) (add-one one) ∙ ones_yes one is ∙ ap (λ xs. xs ++ one ∷ []) (ones_to from one h none)
 
-  ones_are : (n : ℕ) → All (λ m. (m < n) × (bit bits m ≡ 1)) (ones_below bits n)
+  ones_are : (n : ℕ) → AllByRecursion (λ m. (m < n) × (bit bits m ≡ 1)) (ones_below bits n)
   ones_are zero = tt
   ones_are (suc n) =
       let before = All-weaker (λ m. (m < n) × (bit bits m ≡ 1)) (λ m. (m < suc n) × (bit bits m ≡ 1)) (λ m p. (omega (arith, p.0), p.1)) (ones_below bits n) (ones_are n) in
       ⊎_elim
-      (λ one. subst (All (λ m. (m < suc n) × (bit bits m ≡ 1))) (sym (ones_yes n one)) (All-append _ (ones_below bits n) (n ∷ []) before ((omega arith, one), tt)))
-      (λ not. subst (All (λ m. (m < suc n) × (bit bits m ≡ 1))) (sym (ones_no n (omega (arith, bit-lt bits n)))) before)
+      (λ one. subst (AllByRecursion (λ m. (m < suc n) × (bit bits m ≡ 1))) (sym (ones_yes n one)) (All-append _ (ones_below bits n) (n ∷ []) before ((omega arith, one), tt)))
+      (λ not. subst (AllByRecursion (λ m. (m < suc n) × (bit bits m ≡ 1))) (sym (ones_no n (omega (arith, bit-lt bits n)))) before)
       (cases_eq (bit bits n) 1)
 
-  ones_have : (n m : ℕ) → m < n → bit bits m ≡ 1 → Has (ones_below bits n) m
+  ones_have : (n m : ℕ) → m < n → bit bits m ≡ 1 → ContainsAt (ones_below bits n) m
   ones_have zero m h one = absurd (omega arith)
   ones_have (suc n) m h one =
       ⊎_elim
-      (λ same. subst (λ xs. Has xs m) (sym (ones_yes n (subst (λ k. bit bits k ≡ 1) same one))) (subst (λ k. Has (ones_below bits n ++ n ∷ []) k) (sym same) (has_push (ones_below bits n) n)))
-      (λ other. subst (λ xs. Has xs m) (sym (ones_suc n)) (has_append_left (ones_below bits n) _ m (ones_have n m (omega arith) one)))
+      (λ same. subst (λ xs. ContainsAt xs m) (sym (ones_yes n (subst (λ k. bit bits k ≡ 1) same one))) (subst (λ k. ContainsAt (ones_below bits n ++ n ∷ []) k) (sym same) (has_push (ones_below bits n) n)))
+      (λ other. subst (λ xs. ContainsAt xs m) (sym (ones_suc n)) (has_append_left (ones_below bits n) _ m (ones_have n m (omega arith) one)))
       (cases_eq m n)
 
-has_map : {X Y : Type 0} (f : X → Y) (xs : List X) (x : X) → Has xs x → Has (map f xs) (f x)
+has_map : {X Y : Type 0} (f : X → Y) (xs : List X) (x : X) → ContainsAt xs x → ContainsAt (map f xs) (f x)
 has_map f xs x has =
     (has.0, omega (arith, length-map xs f, has.1), λ e. get_or-map f xs has.0 x e has.1 ∙ ap f (has.2 x))
 
@@ -98,7 +98,7 @@ module _ (pins m : ℕ) where
     ends = inr refl;
   }
 
-each : {X : Type 0} (P : X → Type 0) (xs : List X) → ((x : X) → P x) → All P xs
+each : {X : Type 0} (P : X → Type 0) (xs : List X) → ((x : X) → P x) → AllByRecursion P xs
 each P [] p = tt
 each P (x ∷ xs) p = (p x, each P xs p)
 

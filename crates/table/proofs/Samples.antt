@@ -1,6 +1,6 @@
 -- Three covers of two pins.
-use Rattle.std.proofs.Common.{◌≡◌, ℕ, zero, suc, ◌+◌, ◌<◌, min, Bool, true, ◌&&◌, eqb, ◌⊎◌, [], ◌∷◌, get_or, codes, sym, refl, subst, inl, inr, ⊎_elim, arith}
-use Rattle.std.specs.List.{ContainsAt as Has}
+use Rattle.std.proofs.Common.{◌≡◌, ℕ, zero, suc, ◌+◌, ◌<◌, min, Bool, true, ◌&&◌, eqb, [], ◌∷◌, get_or, codes, sym, refl, subst, inl, inr, ⊎_elim, arith}
+use Rattle.std.specs.List.{ContainsAt}
 use Rattle.std.proofs.ByRecursion.{has_push, has_push_cases}
 use Rattle.std.proofs.lemmas.Bool.{eqb-true, cases_eq}
 use Rattle.std.proofs.lemmas.Bool.Decides.{Decides-below_and}
@@ -32,13 +32,13 @@ two_characters : (a b : ℕ) → Character a → Character b → Characters (a �
 two_characters a b first second = each_of_two (λ i c. Character c) a b first second
 
 module _ (line : Line) (m : ℕ) where
-  has_itself : Has (line ∷ []) line
+  has_itself : ContainsAt (line ∷ []) line
   has_itself = has_push [] line
 
-  only_line : (x : Line) → Has (line ∷ []) x → line ≡ x
+  only_line : (x : Line) → ContainsAt (line ∷ []) x → line ≡ x
   only_line x has = ⊎_elim (λ none. absurd (omega (arith, none.1))) (λ same. same) (has_push_cases [] line x has)
 
-  listed-line : (x : Line) → Has (line ∷ []) x → Covers x.plane m → Covers line.plane m
+  listed-line : (x : Line) → ContainsAt (line ∷ []) x → Covers x.plane m → Covers line.plane m
   listed-line x has covers = subst (λ y. Covers y.plane m) (sym (only_line x has)) covers
 
   -- The on-set of one line.

@@ -1,5 +1,5 @@
-use Rattle.std.specs.Prelude.{◌≡◌, ℕ, ◌+◌, ◌<◌, List, [], ◌∷◌, ◌++◌, length, Some, None, Ok, Err, codes, Option, Result}
-use Rattle.std.specs.List.{AllByRecursion as All}
+use Rattle.std.specs.Prelude.{◌≡◌, ℕ, ◌<◌, List, [], ◌∷◌, ◌++◌, length, Some, None, Ok, Err, codes, Option, Result}
+use Rattle.std.specs.List.{AllByRecursion}
 use Rattle.table.specs.declared.shape.Cover.{Cover}
 use Rattle.table.specs.declared.shape.Output.{Output}
 use Rattle.table.specs.declared.shape.Output.TheVariants.{Zero, One}
@@ -15,11 +15,11 @@ written One = codes "1"
 -- There are no lines yet, or there are, and all end in this output.
 abbrev pub Ends : Option Output → List Line → Type 0
 Ends None lines = lines ≡ []
-Ends (Some output) lines = (0 < length lines) × All (λ line. line.output ≡ written output) lines
+Ends (Some output) lines = (0 < length lines) × AllByRecursion (λ line. line.output ≡ written output) lines
 
 -- What is known of the lines: they are well formed, they end so, and the set holds the minterms that some line covers.
 pub record Known (pins : ℕ) (output : Option Output) (listed : ℕ) (lines : List Line) : Type 0 where
-  pub formed : All (Formed pins) lines
+  pub formed : AllByRecursion (Formed pins) lines
   pub ends : Ends output lines
   pub lists : Holds pins listed (Listed lines)
 

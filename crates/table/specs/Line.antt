@@ -1,5 +1,5 @@
 use Rattle.std.specs.Prelude.{◌≡◌, ℕ, ◌+◌, ◌^◌, ◌<◌, ◌⊎◌, List, [], ◌∷◌, length, codes, slice_index}
-use Rattle.std.specs.List.{ContainsAt as Has, AllByRecursion as All}
+use Rattle.std.specs.List.{ContainsAt, AllByRecursion}
 use Rattle.table.specs.Bit.{bit}
 
 -- A line of a cover as it is read: the bytes of its plane and those of its output.
@@ -39,7 +39,7 @@ pub record Formed (pins : ℕ) (line : Line) : Type 0 where
 -- Every line has the output of the first.
 abbrev pub Alike : List Line → Type 0
 Alike [] = Unit {0}
-Alike (first ∷ rest) = All (λ line. line.output ≡ first.output) rest
+Alike (first ∷ rest) = AllByRecursion (λ line. line.output ≡ first.output) rest
 
 -- A further line has another output than the first.
 abbrev pub Differs : List Line → Line → Type 0
@@ -47,19 +47,19 @@ Differs [] line = ⊥
 Differs (first ∷ rest) line = line.output ≡ first.output → ⊥
 
 pub record IsCover (pins : ℕ) (lines : List Line) : Type 0 where
-  pub formed : All (Formed pins) lines
+  pub formed : AllByRecursion (Formed pins) lines
   pub alike : Alike lines
 
 -- Some line covers the minterm m.
 abbrev pub Listed : List Line → ℕ → Type 0
-Listed lines m = (line : Line) × Has lines line × Covers line.plane m
+Listed lines m = (line : Line) × ContainsAt lines line × Covers line.plane m
 
 -- The minterms at which the gate's value is 1: those that a line ending in 1 covers,
 -- and, where lines end in 0, those that no line covers. Without lines there are none.
 abbrev pub OnSet : List Line → ℕ → Type 0
 OnSet lines m =
-    ((line : Line) × Has lines line × (line.output ≡ codes "1") × Covers line.plane m)
-    ⊎ (((line : Line) × Has lines line × (line.output ≡ codes "0")) × (Listed lines m → ⊥))
+    ((line : Line) × ContainsAt lines line × (line.output ≡ codes "1") × Covers line.plane m)
+    ⊎ (((line : Line) × ContainsAt lines line × (line.output ≡ codes "0")) × (Listed lines m → ⊥))
 
 -- The table that the lines mean: bit m is 1 exactly when m is in their on-set, and there is no bit at or above 2 ^ pins.
 abbrev pub Means : ℕ → List Line → ℕ → Type 0

@@ -1,13 +1,13 @@
 -- A comment is cut off a line, and a line off a text.
-use Rattle.std.proofs.Common.{◌≡◌, ℕ, suc, ◌+◌, ◌<◌, ◌≤◌, min, Bool, true, false, cond, ◌||◌, eqb, List, [], ◌∷◌, ◌++◌, length, take, drop, Some, None, Ok, Err, Result, sym, refl, ap, ◌∙◌, subst, ⊎_elim, add-one, arith, length-drop, length-take}
+use Rattle.std.proofs.Common.{◌≡◌, ℕ, suc, ◌+◌, ◌<◌, ◌≤◌, min, Bool, true, false, ◌||◌, eqb, List, [], ◌∷◌, ◌++◌, length, take, drop, Some, Ok, Err, Result, sym, refl, ap, ◌∙◌, subst, ⊎_elim, add-one, arith, length-drop}
 use Rattle.std.proofs.lemmas.Bool.{cond-true, cond-false, cases_Bool, cases_lt}
 use Rattle.std.proofs.lemmas.List.{drop-drop, drop_all, length-take-le}
 use Rattle.text.specs.declared.faults.ReadFault.{ReadFault}
 use Rattle.text.specs.declared.faults.ReadFault.TheVariants.{Text, Memory}
 use Rattle.text.specs.declared.faults.TextFault.{TextFault}
-use Rattle.text.specs.Rules.{Rules, marked, upto, every, allowed}
-use Rattle.text.specs.Words.{Part, words, fits}
-use Rattle.text.specs.Lines.{shown, first_of, verdict, judged, Wordy, Ready, lines, begins, Item, holds, faulty, item, items, rest, first, Found, Gives}
+use Rattle.text.specs.Rules.{Rules, marked, upto}
+use Rattle.text.specs.Words.{Part}
+use Rattle.text.specs.Lines.{shown, judged, Wordy, Ready, lines, begins, Item, holds, faulty, item, items, rest, first, Found, Gives}
 
 twice : (t : Bool) → (t || t) ≡ t
 twice true = refl

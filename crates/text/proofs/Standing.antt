@@ -1,13 +1,13 @@
 -- The words that are read stand in the text.
-use Rattle.std.proofs.Common.{◌≡◌, ℕ, ◌+◌, ◌<◌, Bool, true, false, cond, not, ◌&&◌, ◌||◌, eqb, leb, List, [], ◌∷◌, ◌++◌, length, get_or, take, drop, Ok, Err, filter, sym, refl, ap, ◌∙◌, subst, append_assoc, add-zero, zero-add, arith, length-drop, take-append-drop}
-use Rattle.std.specs.List.{AllByRecursion as All}
+use Rattle.std.proofs.Common.{◌≡◌, ℕ, ◌+◌, ◌<◌, Bool, true, false, cond, not, ◌||◌, eqb, leb, List, [], ◌∷◌, ◌++◌, length, get_or, take, drop, Ok, sym, refl, ap, ◌∙◌, subst, append_assoc, add-zero, zero-add, arith, length-drop, take-append-drop}
+use Rattle.std.specs.List.{AllByRecursion}
 use Rattle.std.proofs.ByRecursion.{all_kept_by}
 use Rattle.std.proofs.lemmas.List.{drop-drop, take_at, take_more, get_or-drop}
 use Rattle.std.proofs.lemmas.Bool.{cond_both, and_parts, and_from, not-true, not_from_false}
 use Rattle.text.specs.declared.faults.TextFault.TheVariants.{TooLong}
 use Rattle.text.specs.Rules.{Rules, separates, upto, marked, every, allowed, word_byte}
 use Rattle.text.specs.Words.{Part, part, onto, parts, is_word_lem, words, fits}
-use Rattle.text.specs.Lines.{shown, first_of, verdict, judged, lines, begins, Item, holds, faulty, item, items, rest, contents}
+use Rattle.text.specs.Lines.{shown, first_of, verdict, judged, lines, begins, Item, faulty, item, items, rest}
 use Rattle.text.specs.Standing.{newlines, Stands, AllStand, WordsStand}
 use Rattle.text.proofs.Cuts.{shown_is}
 
@@ -70,7 +70,7 @@ free_shown (b ∷ bs) h =
 -- ---- the words of a line
 
 module _ (k : Rules) (text : List ℕ) (n : ℕ) where
-  grown : (at b : ℕ) (rest : List ℕ) (ps : List Part) → drop at text ≡ b ∷ rest → Row text at n → First (at + 1) ps × All (Placed text n) ps → First at (onto at b ps) × All (Placed text n) (onto at b ps)
+  grown : (at b : ℕ) (rest : List ℕ) (ps : List Part) → drop at text ≡ b ∷ rest → Row text at n → First (at + 1) ps × AllByRecursion (Placed text n) ps → First at (onto at b ps) × AllByRecursion (Placed text n) (onto at b ps)
   grown at b rest [] e row h = (tt, tt)
   grown at b rest (p ∷ ps) e row h =
       let tail = h.1.0.1.0 in
@@ -78,47 +78,47 @@ module _ (k : Rules) (text : List ℕ) (n : ℕ) where
       e ∙ ap (λ l. b ∷ l) (sym (next text at b rest e) ∙ ap (λ j. drop j text) (sym h.0) ∙ h.1.0.1.1) in
       (refl, ((h.1.0.0, (tail, here), row), h.1.1))
 
-  parts-placed : (at : ℕ) (bs tail : List ℕ) → drop at text ≡ bs ++ tail → Row text at n → Free bs → First at (parts k n at bs) × All (Placed text n) (parts k n at bs)
+  parts-placed : (at : ℕ) (bs tail : List ℕ) → drop at text ≡ bs ++ tail → Row text at n → Free bs → First at (parts k n at bs) × AllByRecursion (Placed text n) (parts k n at bs)
   parts-placed at [] tail e row f = (refl, ((refl, (drop at text, refl), row), tt))
   parts-placed at (b ∷ bs) tail e row f =
       let both = and_parts (not (eqb b 10)) (every (λ c. not (eqb c 10)) bs) f in
       let after = parts-placed (at + 1) bs tail (next text at b (bs ++ tail) e) (row_plain text at n b (bs ++ tail) e row (not-true (eqb b 10) both.0)) both.1 in
-      cond_both (separates k b) (part at n [] ∷ parts k n (at + 1) bs) (onto at b (parts k n (at + 1) bs)) (λ l. First at l × All (Placed text n) l)
+      cond_both (separates k b) (part at n [] ∷ parts k n (at + 1) bs) (onto at b (parts k n (at + 1) bs)) (λ l. First at l × AllByRecursion (Placed text n) l)
       (λ _. (refl, ((refl, (drop at text, refl), row), after.1)))
       (λ _. grown at b (bs ++ tail) (parts k n (at + 1) bs) e row after)
 
-  words_placed : (at : ℕ) (bs tail : List ℕ) → drop at text ≡ bs ++ tail → Row text at n → Free bs → All (Placed text n) (words k n at bs)
+  words_placed : (at : ℕ) (bs tail : List ℕ) → drop at text ≡ bs ++ tail → Row text at n → Free bs → AllByRecursion (Placed text n) (words k n at bs)
   words_placed at [] tail e row f = tt
   words_placed at (b ∷ bs) tail e row f = all_kept_by (λ p. is_word_lem k p.bytes) (Placed text n) (parts k n at (b ∷ bs)) (parts-placed at (b ∷ bs) tail e row f).1
 
-  spell : (at b : ℕ) (ps : List Part) → word_byte b ≡ true → All Clean ps → All Clean (onto at b ps)
+  spell : (at b : ℕ) (ps : List Part) → word_byte b ≡ true → AllByRecursion Clean ps → AllByRecursion Clean (onto at b ps)
   spell at b [] w h = tt
   spell at b (p ∷ ps) w h = (and_from (word_byte b) (every word_byte p.bytes) w h.0, h.1)
 
-  parts_clean : (at : ℕ) (bs : List ℕ) → every (allowed k) bs ≡ true → All Clean (parts k n at bs)
+  parts_clean : (at : ℕ) (bs : List ℕ) → every (allowed k) bs ≡ true → AllByRecursion Clean (parts k n at bs)
   parts_clean at [] e = (refl, tt)
   parts_clean at (b ∷ bs) e =
       let both = and_parts (allowed k b) (every (allowed k) bs) e in
       let after = parts_clean (at + 1) bs both.1 in
-      cond_both (separates k b) (part at n [] ∷ parts k n (at + 1) bs) (onto at b (parts k n (at + 1) bs)) (All Clean)
+      cond_both (separates k b) (part at n [] ∷ parts k n (at + 1) bs) (onto at b (parts k n (at + 1) bs)) (AllByRecursion Clean)
       (λ _. (refl, after))
       (λ t. spell at b (parts k n (at + 1) bs) (sym (ap (λ x. x || word_byte b) t) ∙ both.0) after)
 
-  words_clean : (at : ℕ) (bs : List ℕ) → every (allowed k) bs ≡ true → All Clean (words k n at bs)
+  words_clean : (at : ℕ) (bs : List ℕ) → every (allowed k) bs ≡ true → AllByRecursion Clean (words k n at bs)
   words_clean at [] e = tt
   words_clean at (b ∷ bs) e = all_kept_by (λ p. is_word_lem k p.bytes) Clean (parts k n at (b ∷ bs)) (parts_clean at (b ∷ bs) e)
 
-  standing : (ws : List Part) → All (Placed text n) ws → All Clean ws → every (λ p. fits p.bytes) ws ≡ true → All (Stands text n) ws
+  standing : (ws : List Part) → AllByRecursion (Placed text n) ws → AllByRecursion Clean ws → every (λ p. fits p.bytes) ws ≡ true → AllByRecursion (Stands text n) ws
   standing [] h c e = tt
   standing (w ∷ ws) h c e =
       let both = and_parts (fits w.bytes) (every (λ p. fits p.bytes) ws) e in
       (record { line = h.0.0; counted = h.0.2; there = ap (take (length w.bytes)) h.0.1.1 ∙ take_at w.bytes h.0.1.0 (length w.bytes) refl; right = both.0; clean = c.0 }, standing ws h.1 c.1 both.1)
 
-  stand_words : (ws : List Part) (more : List Item) → All (Stands text n) ws → AllStand text more → AllStand text (item n (Ok ws) ++ more)
+  stand_words : (ws : List Part) (more : List Item) → AllByRecursion (Stands text n) ws → AllStand text more → AllStand text (item n (Ok ws) ++ more)
   stand_words [] more h m = m
   stand_words (w ∷ ws) more h m = (h, m)
 
-  stand_judged : (x y : Bool) (ws : List Part) (more : List Item) → every (λ p. fits p.bytes) ws ≡ y → All (Placed text n) ws → (x ≡ true → All Clean ws) → AllStand text more → AllStand text (item n (verdict (first_of x y) ws) ++ more)
+  stand_judged : (x y : Bool) (ws : List Part) (more : List Item) → every (λ p. fits p.bytes) ws ≡ y → AllByRecursion (Placed text n) ws → (x ≡ true → AllByRecursion Clean ws) → AllStand text more → AllStand text (item n (verdict (first_of x y) ws) ++ more)
   stand_judged false y ws more e h c m = m
   stand_judged true false ws more e h c m = m
   stand_judged true true ws more e h c m = stand_words ws more (standing ws h (c refl) e) m

@@ -1,6 +1,6 @@
 -- The words that are read stand in the text.
 use Rattle.std.specs.Prelude.{◌≡◌, ℕ, ◌+◌, true, cond, List, [], ◌∷◌, length, take, drop, replicate, ◌==◌}
-use Rattle.std.specs.List.{AllByRecursion as All}
+use Rattle.std.specs.List.{AllByRecursion}
 use Rattle.text.specs.Rules.{Rules, file_rules, every, word_byte}
 use Rattle.text.specs.Words.{Part, part, fits}
 use Rattle.text.specs.Lines.{Item, holds, faulty, contents}
@@ -21,7 +21,7 @@ pub record Stands (text : List ℕ) (n : ℕ) (p : Part) : Type 0 where
 
 abbrev pub AllStand : List ℕ → List Item → Type 0
 AllStand text [] = Unit {0}
-AllStand text (holds n ws ∷ is) = All (Stands text n) ws × AllStand text is
+AllStand text (holds n ws ∷ is) = AllByRecursion (Stands text n) ws × AllStand text is
 AllStand text (faulty n f ∷ is) = AllStand text is
 
 -- whatever the kind of text, its limit and its bytes

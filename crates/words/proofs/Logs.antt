@@ -1,11 +1,11 @@
 -- What the calls of the inverse log make of its meaning.
-use Rattle.std.proofs.Common.{◌≡◌, ℕ, zero, suc, ◌+◌, ◌-◌, ◌*◌, ◌<◌, ◌≤◌, ◌≢◌, List, [], ◌∷◌, ◌++◌, length, get_or, take, drop, set, replicate, Some, Ok, sym, refl, ap, ◌∙◌, subst, ⊎_elim, mul-le-mul_left, mul-one, add-one, arith}
+use Rattle.std.proofs.Common.{◌≡◌, ℕ, suc, ◌+◌, ◌-◌, ◌*◌, ◌<◌, ◌≤◌, List, ◌∷◌, length, get_or, take, drop, set, replicate, Ok, sym, refl, ap, ◌∙◌, subst, ⊎_elim, mul-le-mul_left, mul-one, add-one, arith}
 use lib.Seq.{take-set-lt}
 use Rattle.std.proofs.lemmas.List.{get_or-take, get_or-set_same, get_or-set_other, length-take-le, length-replicate, set-set, set-get_or, take_at, drop-set-lt, drop-drop}
 use Rattle.std.proofs.lemmas.Bool.{cases_eq}
-use Rattle.words.specs.Meaning.{Meaning, Lent, Tells, Sets, Opens, Keeps, Drops, levels, newest, size}
-use Rattle.words.specs.Making.{Fits, fresh, cleared}
-use Rattle.words.specs.InverseLog.{word_at, value_at, undo, pile, log_meaning, log_lent, NoteAt, Notes}
+use Rattle.words.specs.Meaning.{Sets, Opens, Keeps, Drops, levels, newest}
+use Rattle.words.specs.Making.{fresh, cleared}
+use Rattle.words.specs.InverseLog.{undo, pile, log_meaning, log_lent, NoteAt, Notes}
 use Rattle.words.proofs.Blocks.{cell-rest}
 use Rattle.words.proofs.Noting.{Sound, Owed, owed}
 use Rattle.words.proofs.Images.{same_meaning}

@@ -1,12 +1,10 @@
 -- What the calls of the snapshot make of its memory: the image, the parts for the levels, and what lies behind them.
-use Rattle.std.proofs.Common.{◌≡◌, ℕ, zero, suc, ◌+◌, ◌-◌, ◌*◌, ◌/◌, ◌<◌, ◌≤◌, min, ◌↔◌, List, [], ◌∷◌, ◌++◌, length, get_or, take, drop, set, replicate, sym, refl, ap, ◌∙◌, mul-le-mul_right, mul_comm, add-mul, one-mul, le-div_iff_mul-le, div-mul-le_self, add-one, arith}
-use native.Mathlib.Nat.{zero-min, min-eq_left, min-le_right}
-use lib.Seq.{paste, take-set-lt}
-use Rattle.std.proofs.lemmas.List.{append_assoc, length-append, length-take-le, length-take, length-replicate, length-drop, length-set, take_at, take-append-le, take-take, drop_at, drop-drop, drop-take, drop-set-lt, drop-append-le}
-use Rattle.std.proofs.lemmas.List.Edits.{length-paste, drop-paste}
-use Rattle.words.specs.Meaning.{Meaning, Lent}
-use Rattle.words.specs.Making.{Fits, Makes, fresh, cleared}
-use Rattle.words.specs.Snapshot.{part, parts, width, snapshot_meaning, snapshot_lent}
+use Rattle.std.proofs.Common.{◌≡◌, ℕ, zero, suc, ◌+◌, ◌-◌, ◌*◌, ◌/◌, ◌<◌, ◌≤◌, List, ◌∷◌, ◌++◌, length, take, drop, sym, refl, ap, ◌∙◌, mul-le-mul_right, mul_comm, add-mul, one-mul, le-div_iff_mul-le, div-mul-le_self, arith}
+use native.Mathlib.Nat.{min-eq_left, min-le_right}
+use lib.Seq.{paste}
+use Rattle.std.proofs.lemmas.List.{append_assoc, length-append, length-take-le, take_at, take-append-le, take-take, drop_at, drop-drop, drop-take}
+use Rattle.std.proofs.lemmas.List.Edits.{drop-paste}
+use Rattle.words.specs.Snapshot.{part, parts, width}
 
 -- ---- a list with a part of it replaced: what stands before, in and behind that part
 

@@ -1,14 +1,14 @@
 -- What the calls of the snapshot make of its meaning.
-use Rattle.std.proofs.Common.{◌≡◌, ℕ, zero, suc, ◌+◌, ◌-◌, ◌*◌, ◌<◌, ◌≤◌, min, List, [], ◌∷◌, ◌++◌, length, get_or, take, drop, set, replicate, Some, Ok, sym, refl, ap, ◌∙◌, subst, mul-le-mul_right, mul_comm, add-mul, one-mul, add-one, arith}
+use Rattle.std.proofs.Common.{◌≡◌, ℕ, suc, ◌+◌, ◌*◌, ◌<◌, ◌≤◌, min, List, ◌∷◌, length, take, drop, set, replicate, Ok, sym, refl, ap, ◌∙◌, mul-le-mul_right, mul_comm, one-mul, add-one, arith}
 use native.Mathlib.Nat.{zero-min, min-eq_left, min-eq_right, min-le_right}
 use lib.Seq.{paste, take-set-lt}
-use Rattle.std.proofs.lemmas.List.{length-take-le, length-replicate, length-append, length-drop, length-set, take_at, drop-set-lt, get_or-take}
+use Rattle.std.proofs.lemmas.List.{length-take-le, length-replicate, length-append, length-drop, length-set, take_at, drop-set-lt}
 use Rattle.std.proofs.lemmas.List.Edits.{length-paste}
-use Rattle.words.specs.Meaning.{Meaning, Lent, Tells, Sets, Opens, Keeps, Drops, wrote, opened, kept, dropped, levels, size}
-use Rattle.words.specs.Making.{Fits, Makes, fresh, cleared}
+use Rattle.words.specs.Meaning.{Meaning, Sets, Opens, Keeps, Drops, wrote, opened, dropped, levels, size}
+use Rattle.words.specs.Making.{Fits, fresh, cleared}
 use Rattle.words.specs.Snapshot.{part, parts, width, snapshot_meaning, snapshot_lent}
 use Rattle.words.proofs.Images.{same_meaning}
-use Rattle.words.proofs.Parts.{take-before, part-before, part_within, drop-behind, parts_apart, behind-image, next-part, add_two, width_fits, width_room, parts_room, parts_same, length-parts}
+use Rattle.words.proofs.Parts.{take-before, part-before, part_within, drop-behind, parts_apart, behind-image, next-part, add_two, width_fits, width_room, parts_same, length-parts}
 
 -- the meaning at a width and a number of levels that are known
 abbrev shot : List ℕ → ℕ → ℕ → ℕ → Meaning

@@ -1,7 +1,7 @@
 -- What an inverse log's memory means. It is cut into blocks of n words: the present image, and for each level three more. There the level
 -- lists the words that it has noted, in the order in which it noted them, with the value that each had; and for each word of the store,
 -- at which place of that list it stands, if it does.
-use Rattle.std.specs.Prelude.{◌≡◌, ℕ, zero, suc, ◌+◌, ◌*◌, ◌<◌, ◌≤◌, ◌≢◌, List, [], ◌∷◌, length, take, drop, slice_index, slice_set}
+use Rattle.std.specs.Prelude.{◌≡◌, ℕ, zero, suc, ◌+◌, ◌*◌, ◌<◌, ◌≢◌, List, [], ◌∷◌, take, drop, slice_index, slice_set}
 use Rattle.words.specs.Meaning.{Meaning, Lent}
 
 -- word i of a block

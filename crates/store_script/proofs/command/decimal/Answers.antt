@@ -1,4 +1,4 @@
-use Rattle.std.proofs.Common.{◌<◌, ◌≤◌, length, drop, sym, refl, subst, arith}
+use Rattle.std.proofs.Common.{◌<◌, ◌≤◌, length, sym, refl, subst, arith}
 use Rattle.std.proofs.lemmas.List.{drop_all}
 use Rattle.store_script.specs.Commands.{Digits}
 use Rattle.store_script.proofs.Reading.{step, back, stuck}

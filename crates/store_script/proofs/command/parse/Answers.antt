@@ -1,4 +1,4 @@
-use Rattle.std.proofs.Common.{ℕ, drop, refl, subst, MatchOption}
+use Rattle.std.proofs.Common.{ℕ, refl, subst, MatchOption}
 use Rattle.std.proofs.lemmas.List.{take_rest}
 use Rattle.store_script.specs.Commands.{Operands, SetOperands}
 use Rattle.store_script.proofs.Reading.{spelled}

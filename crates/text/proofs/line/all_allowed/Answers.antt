@@ -1,4 +1,4 @@
-use Rattle.std.proofs.Common.{◌≡◌, false, sym, ◌∙◌, arith}
+use Rattle.std.proofs.Common.{sym, ◌∙◌, arith}
 use Rattle.text.specs.Rules.{allowed}
 use Rattle.text.proofs.Fronts.{every_stops, every_more, every_all}
 use Rattle.text.proofs.line.all_allowed.Goals as goal

@@ -2,7 +2,7 @@ use Rattle.std.proofs.Common.{◌≡◌, ℕ, ◌-◌, ◌<◌, List, map, lengt
 use native.Mathlib.Nat.{sub-zero}
 use Rattle.std.proofs.lemmas.List.{take_rest}
 use Rattle.std.proofs.lemmas.Result.{MatchResult-from_err}
-use Rattle.text.specs.Rules.{upto, marked, separates}
+use Rattle.text.specs.Rules.{upto, marked}
 use Rattle.text.specs.Words.{spelled, words}
 use Rattle.text.proofs.Splits.{Cut, left_some, left_last, left_more}
 use Rattle.text.proofs.line.split.Given as given

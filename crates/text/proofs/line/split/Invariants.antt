@@ -1,5 +1,5 @@
-use Rattle.std.proofs.Common.{◌≡◌, ◌+◌, ◌-◌, ◌≤◌, ◌++◌, map, length, drop, vec_items, filter}
-use Rattle.text.specs.Words.{spelled, is_word_lem, parts}
+use Rattle.std.proofs.Common.{◌-◌, map, length, vec_items}
+use Rattle.text.specs.Words.{spelled}
 use Rattle.text.proofs.Splits.{Left}
 use Rattle.text.proofs.line.split.Given as goal
 

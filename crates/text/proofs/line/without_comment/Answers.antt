@@ -1,4 +1,4 @@
-use Rattle.std.proofs.Common.{length, take, ap, ◌∙◌, arith, length-take}
+use Rattle.std.proofs.Common.{take, ap, ◌∙◌, arith, length-take}
 use native.Mathlib.Nat.{sub-zero}
 use Rattle.text.proofs.Cuts.{shown_is}
 use Rattle.text.proofs.line.without_comment.Goals as goal

@@ -1,10 +1,10 @@
-use Rattle.std.proofs.Common.{◌≡◌, ℕ, ◌+◌, ◌-◌, ◌<◌, List, [], ◌∷◌, map, length, take, drop, Ok, Err, vec_items, sym, refl, ap, ◌∙◌, subst, arith, rules}
+use Rattle.std.proofs.Common.{◌≡◌, ℕ, ◌+◌, ◌-◌, ◌<◌, List, [], ◌∷◌, map, length, take, drop, Ok, Err, vec_items, sym, refl, ap, ◌∙◌, subst, arith}
 use native.Mathlib.Nat.{sub-zero}
 use Rattle.std.proofs.lemmas.List.{take_rest, nil_from_length, length-map}
 use Rattle.std.proofs.lemmas.Result.{err_from_is_err_and}
 use Rattle.std.proofs.lemmas.Bool.{eqb-true, eqb-false}
 use Rattle.text.specs.Words.{spelled}
-use Rattle.text.specs.Lines.{rest, Gives, holds, judged}
+use Rattle.text.specs.Lines.{rest, Gives, holds}
 use Rattle.text.proofs.Cuts.{Step, skips, gives_line, gives_fault, rest-none}
 use Rattle.text.proofs.reader.Reader.next_within.Given as given
 use Rattle.text.proofs.reader.Reader.next_within.Goals as goal

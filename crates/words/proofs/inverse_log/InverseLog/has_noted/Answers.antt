@@ -1,4 +1,4 @@
-use Rattle.std.proofs.Common.{◌+◌, ◌*◌, ◌<◌, length, arith}
+use Rattle.std.proofs.Common.{◌+◌, ◌*◌, length, arith}
 use Rattle.words.proofs.Blocks.{cell_within}
 use Rattle.words.proofs.inverse_log.InverseLog.has_noted.Goals as goal
 

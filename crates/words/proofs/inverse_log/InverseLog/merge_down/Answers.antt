@@ -1,4 +1,4 @@
-use Rattle.std.proofs.Common.{◌≡◌, ℕ, ◌+◌, ◌-◌, ◌*◌, ◌<◌, get_or, sym, refl, ap, ◌∙◌, subst, arith}
+use Rattle.std.proofs.Common.{◌≡◌, ◌+◌, ◌-◌, ◌*◌, ◌<◌, get_or, ap, ◌∙◌, arith}
 use Rattle.words.specs.InverseLog.{word_at, value_at}
 use Rattle.words.proofs.Steps.{note_within, handed_more}
 use Rattle.words.proofs.inverse_log.InverseLog.merge_down.Goals as goal

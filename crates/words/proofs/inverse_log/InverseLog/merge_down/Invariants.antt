@@ -1,4 +1,4 @@
-use Rattle.std.proofs.Common.{◌≡◌, ◌-◌, get_or, take, drop}
+use Rattle.std.proofs.Common.{◌≡◌, ◌-◌}
 use Rattle.words.specs.InverseLog.{undo, Notes}
 use Rattle.words.proofs.inverse_log.InverseLog.merge_down.Given as goal
 

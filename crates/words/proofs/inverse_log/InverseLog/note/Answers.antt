@@ -1,4 +1,4 @@
-use Rattle.std.proofs.Common.{length, set, refl, arith}
+use Rattle.std.proofs.Common.{refl, arith}
 use Rattle.std.proofs.lemmas.List.{length-set}
 use Rattle.words.proofs.Noting.{sound_of, room_for_note, owed_word, owed_value, owed_note, notes_at, notes_old, word_within, value_within, place_within}
 use Rattle.words.proofs.inverse_log.InverseLog.note.Goals as goal

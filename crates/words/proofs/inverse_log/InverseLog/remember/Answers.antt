@@ -1,4 +1,4 @@
-use Rattle.std.proofs.Common.{◌≡◌, suc, ◌-◌, ◌≤◌, sym, refl, ap, ◌∙◌, arith}
+use Rattle.std.proofs.Common.{◌≡◌, suc, ◌-◌, refl, arith}
 use Rattle.words.proofs.Logs.{remembered, lent_notes}
 use Rattle.words.proofs.Noting.{sound_of}
 use Rattle.words.proofs.inverse_log.InverseLog.remember.Goals as goal

@@ -1,4 +1,4 @@
-use Rattle.std.proofs.Common.{◌≡◌, ℕ, ◌+◌, ◌-◌, ◌*◌, ◌<◌, get_or, take, sym, refl, ap, ◌∙◌, subst, arith}
+use Rattle.std.proofs.Common.{◌≡◌, ◌+◌, ◌-◌, ◌*◌, ◌<◌, get_or, take, ap, subst, arith}
 use Rattle.words.specs.InverseLog.{undo}
 use Rattle.words.proofs.Steps.{note_within, owed_taken, rest_taken, taken_more}
 use Rattle.words.proofs.inverse_log.InverseLog.undo_notes.Goals as goal

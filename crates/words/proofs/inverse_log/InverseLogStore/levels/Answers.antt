@@ -1,7 +1,5 @@
 use Rattle.std.proofs.Common.{sym}
 use Rattle.words.proofs.Undoing.{length-pile}
-use Rattle.words.proofs.Pigeonhole.{pigeonhole}
-use Rattle.words.proofs.Blocks.{cell_within}
 use Rattle.words.proofs.inverse_log.InverseLogStore.levels.Goals as goal
 
 pub returns : goal.returns

@@ -1,4 +1,4 @@
-use Rattle.std.proofs.Common.{◌<◌, length, refl, arith}
+use Rattle.std.proofs.Common.{refl, arith}
 use Rattle.words.proofs.Logs.{opens, opens_none, owed_open}
 use Rattle.words.proofs.Noting.{sound_of}
 use Rattle.words.proofs.inverse_log.InverseLogStore.open_level.Goals as goal

@@ -1,7 +1,6 @@
-use Rattle.std.proofs.Common.{◌≡◌, suc, ◌+◌, ◌-◌, ◌*◌, ◌<◌, ◌≤◌, min, length, drop, ap, ◌∙◌, arith}
+use Rattle.std.proofs.Common.{◌≡◌, suc, ◌+◌, ◌-◌, ◌*◌, ◌<◌, min, drop, ap, ◌∙◌, arith}
 use native.Mathlib.Nat.{min-le_right}
 use lib.Seq.{paste}
-use Rattle.words.specs.Snapshot.{width}
 use Rattle.words.proofs.Shots.{drops, drops_lent, saves_room}
 use Rattle.words.proofs.snapshot.SnapshotStore.drop_level.Goals as goal
 

@@ -1,4 +1,4 @@
-use Rattle.std.proofs.Common.{◌≤◌, length, take, sym, refl, ap}
+use Rattle.std.proofs.Common.{take, sym, ap}
 use Rattle.words.specs.Snapshot.{snapshot_meaning}
 use Rattle.words.proofs.Images.{told}
 use Rattle.words.proofs.Shots.{wide_within}

@@ -1,4 +1,4 @@
-use Rattle.std.proofs.Common.{◌-◌, sym, refl, ◌∙◌, arith}
+use Rattle.std.proofs.Common.{◌-◌, refl, arith}
 use Rattle.words.proofs.Shots.{keeps}
 use Rattle.words.proofs.snapshot.SnapshotStore.keep_level.Goals as goal
 

@@ -1,4 +1,4 @@
-use Rattle.std.proofs.Common.{◌+◌, ◌*◌, length, refl, ap, ◌∙◌, arith}
+use Rattle.std.proofs.Common.{◌+◌, ◌*◌, refl, ap, ◌∙◌}
 use lib.Seq.{paste}
 use Rattle.words.proofs.Shots.{opens, opens_lent, opens_none, saves_room}
 use Rattle.words.proofs.snapshot.SnapshotStore.open_level.Goals as goal
