@@ -1,5 +1,5 @@
 -- The names of a line are entered one by one.
-use Rattle.std.proofs.Common.{◌≡◌, ℕ, ◌+◌, ◌<◌, ◌≤◌, Bool, true, false, ◌&&◌, List, [], ◌∷◌, ◌++◌, length, get_or, take, drop, Some, None, Ok, Err, Option, Result, sym, refl, ap, ◌∙◌, subst, ⊎_elim, le_refl, arith}
+use Rattle.std.proofs.Common.{◌≡◌, ℕ, ◌+◌, ◌<◌, ◌≤◌, Bool, true, ◌&&◌, List, [], ◌∷◌, length, get_or, take, drop, Some, Ok, Err, Result, sym, refl, ap, ◌∙◌, ⊎_elim, le_refl, arith}
 use Rattle.std.proofs.lemmas.List.{at_drop_more, at_drop_all, take-append-le, take_all, length_push}
 use Rattle.text.specs.declared.words.Word.{Word}
 use Rattle.names.specs.declared.faults.NameFault.{NameFault}

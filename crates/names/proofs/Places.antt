@@ -1,6 +1,6 @@
 -- Where a name stands, as names are added and taken back.
-use Rattle.std.proofs.Common.{◌≡◌, ℕ, zero, suc, pred, ◌+◌, ◌<◌, ◌≤◌, Bool, true, false, cond, ◌⊎◌, List, [], ◌∷◌, ◌++◌, map, length, get_or, is_some, Some, None, Ok, Err, Option, Result, sym, refl, ap, ◌∙◌, subst, inl, inr, ⊎_elim, arith, MatchResult}
-use Rattle.std.proofs.StringKeys.Lists.{same_bytes}
+use Rattle.std.proofs.Common.{◌≡◌, ℕ, zero, suc, pred, ◌<◌, ◌≤◌, Bool, true, false, cond, ◌⊎◌, List, [], ◌∷◌, ◌++◌, map, length, get_or, is_some, Some, None, Ok, Err, Option, Result, sym, refl, ap, ◌∙◌, subst, inl, inr, ⊎_elim, arith, MatchResult}
+use Rattle.std.specs.Cmp.Lexicographic.{nat_list_eq_equiv}
 use Rattle.std.proofs.lemmas.List.{get_or_append_left, get_or_push, length-append}
 use Rattle.std.proofs.lemmas.Option.{slice_get-get_or}
 use Rattle.std.proofs.lemmas.Bool.{cond-true, cond-false, cases_Bool, cases_lt, lt-ltb, le-ltb}
@@ -8,9 +8,9 @@ use Rattle.std.specs.Str.{bytes_eq as same_text}
 use Rattle.std.specs.List.{slice_get}
 use Rattle.std.specs.Option.{option_map}
 use Rattle.names.specs.declared.faults.NameFault.{NameFault}
-use Rattle.names.specs.declared.faults.NameFault.TheVariants.{NoRoom, Memory}
-use Rattle.names.specs.Numbers.{Adds, Enters}
-use Rattle.names.specs.Names.{position, coded, Apart, added, entered, below, fits}
+use Rattle.names.specs.declared.faults.NameFault.TheVariants.{Memory}
+use Rattle.names.specs.Numbers.{Adds}
+use Rattle.names.specs.Names.{position, coded, Apart, added, below}
 
 pub same_coded : (a b : Option ℕ) → coded a ≡ coded b → a ≡ b
 same_coded None None e = refl
@@ -41,7 +41,7 @@ position_known ns w q i e = position-push ns w q ∙ ap (λ o. or_else o (cond (
 
 pub position_last : (ns : List (List ℕ)) (w : List ℕ) → position ns w ≡ None → position (ns ++ w ∷ []) w ≡ Some (length ns)
 position_last ns w e =
-    position-push ns w w ∙ ap (λ o. or_else o (cond (same_text w w) (Some (length ns)) None)) e ∙ cond-true (same_text w w) (Some (length ns)) None (same_bytes w)
+    position-push ns w w ∙ ap (λ o. or_else o (cond (same_text w w) (Some (length ns)) None)) e ∙ cond-true (same_text w w) (Some (length ns)) None (nat_list_eq_equiv.refl w)
 
 pub position_other : (ns : List (List ℕ)) (w q : List ℕ) → same_text q w ≡ false → position (ns ++ w ∷ []) q ≡ position ns q
 position_other ns w q e = position-push ns w q ∙ ap (λ t. or_else (position ns q) (cond t (Some (length ns)) None)) e ∙ kept (position ns q)

@@ -1,5 +1,5 @@
 -- Names, by number: a list that only grows.
-use Rattle.std.specs.Prelude.{◌≡◌, ℕ, suc, ◌<◌, Bool, true, false, cond, List, [], ◌∷◌, ◌++◌, map, length, is_some, Some, None, vec_items, Option, Vec, nat_lt, slice_index_or}
+use Rattle.std.specs.Prelude.{◌≡◌, ℕ, suc, ◌<◌, Bool, false, cond, List, [], ◌∷◌, ◌++◌, map, length, is_some, Some, None, vec_items, Option, Vec, nat_lt, slice_index_or}
 use Rattle.std.specs.Str.{bytes_eq as same_text}
 use Rattle.std.specs.Option.{option_map}
 use Rattle.std.specs.declared.alloc.Global.{Global}

@@ -2,9 +2,9 @@
 ghost use Rattle.std.specs.Prelude.{◌≡◌, ℕ, ◌-◌, ◌≤◌, List, [], ◌∷◌, ◌++◌, length, take, IfOk, Some, None, codes, Vec as Vector, MatchOption, MatchResult};
 ghost use Rattle.std.specs.BTreeMap.{get};
 ghost use Rattle.std.specs.List.{slice_get};
-ghost use Rattle.std.specs.Cmp.{nat_cmp_total};
+ghost use Rattle.std.specs.Cmp.Lexicographic.{slice_cmp};
 ghost use Rattle.std.specs.Option.{option_map};
-ghost use Rattle.std.specs.OwnedKeys.{vectors};
+ghost use Rattle.std.specs.Ordering.{nat_cmp};
 ghost use Rattle.std.specs.declared.alloc.Global.{Global as Heap};
 ghost use Rattle.names.specs.declared.faults.NameFault.TheVariants.{Memory};
 ghost use Rattle.names.specs.Names.{position, Apart, coded, Stays, listed, spellings};
@@ -22,7 +22,7 @@ pub struct NameTable {
     model: Vec<u8>,
     names: Vec<Vec<u8>>,
     numbers: BTreeMap<Vec<u8>, u32>,
-    ghost agree: { (q : Vector ℕ Heap) → coded (get (vectors nat_cmp_total) numbers q) ≡ coded (position (listed names) q.items) },
+    ghost agree: { (q : Vector ℕ Heap) → coded (get (λ x y. slice_cmp nat_cmp x.items y.items) numbers q) ≡ coded (position (listed names) q.items) },
     ghost apart: { Apart (listed names) },
 }
 

@@ -1,11 +1,8 @@
-use Rattle.std.proofs.Common.{◌≡◌, take, Ok, Err, sym, refl, ap, ◌∙◌, subst, arith}
+use Rattle.std.proofs.Common.{take, Ok, Err, sym, ap, ◌∙◌, subst, arith}
 use Rattle.names.specs.Names.{listed, spellings}
 use Rattle.names.specs.Numbers.{Enters}
-use Rattle.names.proofs.Entering.{Stand, stand_start, stand_all, stand_more, stand_stops, enters_stays}
+use Rattle.names.proofs.Entering.{stand_all, stand_stops, enters_stays}
 use Rattle.names.proofs.table.NameTable.enter.Goals as goal
-
-pub loop-word-init : goal.loop-word-init
-loop-word-init c = (stand_start c.args.room (listed c.args.self.now.names) c.args.words.now, refl)
 
 pub returns-in-Err : goal.returns-in-Err
 returns-in-Err c =
@@ -20,9 +17,6 @@ returns-in-Err c =
       stay = enters_stays c.args.room old new ws (Err c.refuse.result) told;
       model = c.refuse.ensures.model ∙ c.in-Err.ensures.model ∙ c.loop-word.invariant.1;
     }
-
-pub loop-word-preserved : goal.loop-word-preserved
-loop-word-preserved c = (stand_more c.loop-word.invariant.0 _ (omega arith) (listed c.add.new.self.names) c.in-default.ensures.names, c.in-default.ensures.model ∙ c.loop-word.invariant.1)
 
 pub returns : goal.returns
 returns c =
