@@ -1,6 +1,7 @@
 // The name table.
 ghost use Rattle.std.specs.Prelude.{◌≡◌, ℕ, ◌-◌, ◌≤◌, List, [], ◌∷◌, ◌++◌, length, take, IfOk, Some, None, codes, Vec as Vector, MatchOption, MatchResult};
-ghost use Rattle.std.specs.BTreeMap.{get};
+ghost use Rattle.std.proofs.Props.{props};
+ghost use Rattle.std.specs.BTreeMap.{get, IsOrdered};
 ghost use Rattle.std.specs.List.{slice_get};
 ghost use Rattle.std.specs.Cmp.Lexicographic.{slice_cmp};
 ghost use Rattle.std.specs.Option.{option_map};
@@ -22,6 +23,7 @@ pub struct NameTable {
     model: Vec<u8>,
     names: Vec<Vec<u8>>,
     numbers: BTreeMap<Vec<u8>, u32>,
+    ghost lawful: { IsOrdered (λ x y. slice_cmp nat_cmp x.items y.items) numbers } by { Prim.hlevel props },
     ghost agree: { (q : Vector ℕ Heap) → coded (get (λ x y. slice_cmp nat_cmp x.items y.items) numbers q) ≡ coded (position (listed names) q.items) },
     ghost apart: { Apart (listed names) },
 }

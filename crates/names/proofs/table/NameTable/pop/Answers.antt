@@ -15,4 +15,4 @@ invariant_of-self c =
     let left = listed c.pop.new.self in
     let before = sound_from t.numbers (listed t.names) t.agree t.apart in
     let is = sound_pop t.numbers c.remove.new.self left c.in-Some.name (subst (Sound t.numbers) (was d) before) c.remove.ensures.updates in
-    record { agree = sound_agree c.remove.new.self left is; apart = is.apart }
+    record { lawful = c.remove.ensures.ordered; agree = sound_agree c.remove.new.self left is; apart = is.apart }

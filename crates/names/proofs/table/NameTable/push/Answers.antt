@@ -19,4 +19,4 @@ invariant_of-self-2 c =
     let was = sound_from t.numbers old t.agree t.apart in
     let put = sound_push t.numbers c.insert.new.self old key c.args.number was c.in_ok-insert.ensures.updates c.requires.next (ap (position old) same ∙ c.requires.fresh) in
     let is = subst (Sound c.insert.new.self) (sym (grown c ∙ ap (λ w. old ++ w ∷ []) (c.in_ok-copy.ensures.items ∙ sym same))) put in
-    record { agree = sound_agree c.insert.new.self (listed c.push_reserved.new.self) is; apart = is.apart }
+    record { lawful = c.in_ok-insert.ensures.ordered; agree = sound_agree c.insert.new.self (listed c.push_reserved.new.self) is; apart = is.apart }
