@@ -1,12 +1,12 @@
 -- What the words of a signal say of its driver and of the pins on it.
-use Rattle.std.proofs.Common.{◌≡◌, ℕ, zero, suc, ◌+◌, ◌*◌, ◌/◌, ◌%◌, ◌<◌, ◌≤◌, Bool, true, false, cond, not, eqb, ltb, leb, ◌⊎◌, List, [], ◌∷◌, length, get_or, Decides, sym, refl, ap, ◌∙◌, subst, inl, inr, ⊎_elim, arith}
-use Rattle.std.proofs.lemmas.Bool.{cases_eq, cases_lt, eq-eqb, ne_eqb, eqb-true, leb-true, le-leb, not-true, eqb-false, not_from_false}
+use Rattle.std.proofs.Common.{◌≡◌, ℕ, zero, suc, ◌+◌, ◌*◌, ◌/◌, ◌%◌, ◌<◌, ◌≤◌, not, eqb, leb, List, [], ◌∷◌, length, get_or, Decides, sym, refl, ap, ◌∙◌, subst, inl, inr, ⊎_elim, arith}
+use Rattle.std.proofs.lemmas.Bool.{cases_lt, eq-eqb, ne_eqb, eqb-true, leb-true, le-leb, not-true, eqb-false, not_from_false}
 use Rattle.reach.specs.Reach.{Among}
 use Rattle.netlist.specs.Netlist.{Driver, absent, input, gate, latch, driver_of, output_of_lem, pins_of_lem, Used}
 use Rattle.netlist.specs.declared.edit.Edit.TheVariants.{Move}
 use Rattle.netlist.specs.Edits.{Pinned, placed, puts_of_lem}
-use Rattle.board.specs.Layout.{word, kind, value, output, first, pin}
-use Rattle.board.specs.Chain.{Chained, Least}
+use Rattle.board.specs.Layout.{word, kind, value, first, pin}
+use Rattle.board.specs.Chain.{Least}
 use Rattle.board.specs.Board.{nets, driven, driver_at, netlist_of, pin_word, Sound}
 use Rattle.board.proofs.Signals.{driver-at, driver_past, output_at}
 

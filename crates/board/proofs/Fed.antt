@@ -2,11 +2,11 @@
 use Rattle.std.proofs.Common.{◌≡◌, ℕ, zero, suc, ◌+◌, ◌*◌, ◌/◌, ◌%◌, ◌<◌, ◌≤◌, Bool, true, false, cond, eqb, ltb, List, [], ◌∷◌, length, sym, refl, ap, ◌∙◌, subst, inl, inr, ⊎_elim, arith}
 use Rattle.std.proofs.lemmas.Bool.{cases_lt, cases_order, eqb-true, eqb-false, ltb-false, lt-ltb, le-ltb, eq-eqb, ne_eqb, cond-true, cond-false}
 use Rattle.reach.specs.Reach.{Among, Follows}
-use Rattle.netlist.specs.Netlist.{driver_of, pins_of_lem, feeders, Feeds}
+use Rattle.netlist.specs.Netlist.{pins_of_lem, feeders, Feeds}
 use Rattle.netlist.specs.Places.{place}
 use Rattle.board.specs.Layout.{kind, value, seat, first, pin, next}
 use Rattle.board.specs.Chain.{Least, Chained}
-use Rattle.board.specs.Board.{nets, driven, driver_at, netlist_of, order_of, pin_word, Sound}
+use Rattle.board.specs.Board.{nets, driven, netlist_of, order_of, pin_word, Sound}
 use Rattle.board.specs.Fanout.{nowhere, gate_of_lem, upward, chain, fed_by, TellsFed}
 use Rattle.board.proofs.Signals.{driver-at, driver_past}
 use Rattle.board.proofs.Drivers.{pin_word_within}

@@ -1,5 +1,5 @@
 -- The netlist and the order that the words of a store tell.
-use Rattle.std.specs.Prelude.{◌≡◌, ℕ, zero, suc, ◌+◌, ◌*◌, ◌<◌, ◌≤◌, List, [], ◌∷◌, ◌==◌, slice_index}
+use Rattle.std.specs.Prelude.{◌≡◌, ℕ, zero, suc, ◌+◌, ◌*◌, ◌<◌, List, [], ◌∷◌, ◌==◌, slice_index}
 use Rattle.netlist.specs.Netlist.{Netlist, Driver, Signal, absent, input, gate, latch, pins_of_lem}
 use Rattle.netlist.specs.Places.{Order, place}
 use Rattle.netlist.specs.Edits.{Board}

@@ -1,5 +1,5 @@
 -- The gates that a signal feeds, told from the chain of the pins on it.
-use Rattle.std.specs.Prelude.{◌≡◌, ℕ, zero, suc, ◌-◌, ◌*◌, ◌/◌, ◌<◌, ◌≤◌, min, cond, List, [], ◌∷◌, ◌==◌, ◌≢◌, nat_lt}
+use Rattle.std.specs.Prelude.{ℕ, zero, suc, ◌*◌, ◌/◌, ◌<◌, ◌≤◌, cond, List, [], ◌∷◌, ◌==◌, ◌≢◌, nat_lt}
 use Rattle.reach.specs.Reach.{Follows}
 use Rattle.netlist.specs.Netlist.{Feeds}
 use Rattle.netlist.specs.Places.{place}

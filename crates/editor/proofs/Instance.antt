@@ -1,11 +1,9 @@
 -- A batch on the empty board of five signals, with D = 3.
-use Rattle.std.proofs.Common.{◌≡◌, ℕ, zero, suc, ◌+◌, ◌-◌, ◌*◌, ◌<◌, ◌≤◌, ◌⊎◌, List, [], ◌∷◌, ◌++◌, length, get_or, replicate, Ok, sym, refl, ap, ◌∙◌, subst, inl, inr, ⊎_elim, arith}
+use Rattle.std.proofs.Common.{◌≡◌, ℕ, zero, suc, ◌+◌, ◌-◌, ◌*◌, ◌<◌, ◌≤◌, ◌⊎◌, List, [], ◌∷◌, ◌++◌, length, get_or, replicate, Ok, refl, ap, ◌∙◌, inl, inr, ⊎_elim, arith}
 use Rattle.std.proofs.lemmas.List.{get_or-replicate, get_or_past, length-replicate, length-append, get_or_append_left, get_or-append_right}
 use Rattle.std.proofs.lemmas.Bool.{cases_lt}
 use Rattle.words.specs.Meaning.{Meaning, opened}
-use Rattle.netlist.specs.Netlist.{empty_netlist}
 use Rattle.board.specs.Layout.{word, seat, holder}
-use Rattle.board.specs.Board.{netlist_of}
 use Rattle.editor.specs.declared.call.Call.TheVariants.{Begin}
 use Rattle.editor.specs.Log.{Entry, Led}
 use Rattle.editor.specs.Laws.{Fresh}

@@ -1,12 +1,12 @@
 -- Words that hold the empty netlist.
-use Rattle.std.proofs.Common.{◌≡◌, ℕ, zero, suc, ◌+◌, ◌*◌, ◌<◌, ◌≤◌, Bool, true, false, cond, eqb, ◌⊎◌, List, [], ◌∷◌, length, get_or, replicate, sym, refl, ap, ◌∙◌, subst, inl, inr, ⊎_elim, arith}
+use Rattle.std.proofs.Common.{◌≡◌, ℕ, zero, suc, ◌+◌, ◌*◌, ◌<◌, ◌≤◌, false, eqb, ◌⊎◌, List, ◌∷◌, length, get_or, replicate, sym, refl, ap, ◌∙◌, subst, inl, inr, ⊎_elim, arith}
 use Rattle.std.proofs.lemmas.List.{get_or_past, get_or-replicate, length-replicate}
 use Rattle.std.proofs.lemmas.Bool.{cases_lt, eq-eqb, ne_eqb, cond-true, cond-false}
 use Rattle.reach.specs.Reach.{Among}
-use Rattle.netlist.specs.Netlist.{Netlist, Driver, absent, unused, driver_of, feeders, pins_of_lem, empty_netlist}
+use Rattle.netlist.specs.Netlist.{absent, unused, driver_of, feeders, pins_of_lem, empty_netlist}
 use Rattle.netlist.specs.Places.{Order, place, counted, first_order, Arranges, Ordered}
-use Rattle.netlist.specs.Edits.{Board, empty_board}
-use Rattle.board.specs.Layout.{word, kind, output, value, seat, holder, first, pin, next}
+use Rattle.netlist.specs.Edits.{empty_board}
+use Rattle.board.specs.Layout.{word, kind, output, seat, holder, pin}
 use Rattle.board.specs.Chain.{Least, Chained}
 use Rattle.board.specs.Board.{listing, driven, driver_at, signal_at_lem, netlist_of, order_of, board_of, pin_word, Sound}
 use Rattle.board.specs.Standing.{Fitting, Stands}

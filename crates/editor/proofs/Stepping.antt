@@ -1,5 +1,5 @@
 -- From what a call does on a store to the step that it adds to every log.
-use Rattle.std.proofs.Common.{◌≡◌, ℕ, ◌<◌, ◌≤◌, List, [], ◌∷◌, ◌++◌, Ok, Err, Result, sym, refl, ap, ◌∙◌, subst, arith}
+use Rattle.std.proofs.Common.{◌≡◌, ℕ, ◌<◌, ◌≤◌, List, [], Ok, Err, Result, sym, refl, ap, subst, arith}
 use Rattle.words.specs.Meaning.{Meaning}
 use Rattle.reach.specs.Listed.{along}
 use Rattle.reach.specs.declared.path.Path.{Path}
@@ -10,7 +10,6 @@ use Rattle.netlist.specs.Refusals.{number}
 use Rattle.netlist.specs.Netlist.{Netlist, Loop}
 use Rattle.netlist.specs.Edits.{asked}
 use Rattle.board.specs.Board.{netlist_of, Sound}
-use Rattle.board.specs.Standing.{Stands}
 use Rattle.edits.specs.Makes.{Workable, Makes, Early}
 use Rattle.editor.specs.declared.call.Call.{Call}
 use Rattle.editor.specs.declared.call.Call.TheVariants.{Make}

@@ -1,10 +1,10 @@
 -- The words of an empty netlist, written one after the other.
-use Rattle.std.proofs.Common.{◌≡◌, ℕ, ◌+◌, ◌*◌, ◌<◌, ◌≤◌, ◌⊎◌, List, length, get_or, set, sym, refl, ap, ◌∙◌, subst, ⊎_elim, arith}
+use Rattle.std.proofs.Common.{◌≡◌, ℕ, ◌+◌, ◌*◌, ◌<◌, ◌≤◌, ◌⊎◌, List, length, set, sym, refl, ap, ◌∙◌, subst, ⊎_elim, arith}
 use Rattle.std.proofs.lemmas.List.{get_or_past, get_or-set_same, get_or-set_other, length-set}
 use Rattle.std.proofs.lemmas.Bool.{cases_eq, cases_lt}
 use Rattle.words.specs.Meaning.{Meaning, size, wrote}
 use Rattle.netlist.specs.Edits.{empty_board}
-use Rattle.board.specs.Layout.{word, seat, holder}
+use Rattle.board.specs.Layout.{word}
 use Rattle.board.specs.Board.{board_of}
 use Rattle.board.specs.Standing.{Inside, Stands}
 use Rattle.editor.specs.Making.{Cleared, Seated}

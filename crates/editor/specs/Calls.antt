@@ -1,7 +1,6 @@
 -- What each call of an editor replies and leaves.
 use Rattle.std.specs.Prelude.{◌≡◌, ℕ, suc, ◌<◌, ◌≤◌, true, ◌⊎◌, List, [], ◌∷◌, Ok, Err, Result}
 use Rattle.words.specs.Meaning.{Meaning, levels, opened, kept, dropped}
-use Rattle.netlist.specs.declared.edit.Edit.{Edit}
 use Rattle.netlist.specs.declared.edit.Refusal.{Refusal}
 use Rattle.netlist.specs.declared.edit.Refusal.TheVariants.{NoEditor}
 use Rattle.netlist.specs.Refusals.{number}

@@ -1,5 +1,5 @@
 -- When an editor of so many signals can be made over a store, and how the empty netlist is written there.
-use Rattle.std.specs.Prelude.{◌≡◌, ℕ, ◌+◌, ◌*◌, ◌<◌, ◌≤◌, ◌⊎◌, List, length}
+use Rattle.std.specs.Prelude.{◌≡◌, ℕ, ◌+◌, ◌*◌, ◌<◌, ◌≤◌, ◌⊎◌, List}
 use Rattle.words.specs.Meaning.{Meaning, size, levels}
 use Rattle.board.specs.Layout.{word, seat, holder}
 use Rattle.board.specs.Standing.{Inside}

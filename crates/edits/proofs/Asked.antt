@@ -1,13 +1,13 @@
 -- What feeds what in the netlist that an edit asks for.
-use Rattle.std.proofs.Common.{◌≡◌, ℕ, zero, suc, ◌<◌, ◌≤◌, Bool, true, false, ◌⊎◌, List, [], ◌∷◌, length, get_or, take, set, sym, refl, ap, ◌∙◌, subst, inl, inr, ⊎_elim, arith}
+use Rattle.std.proofs.Common.{◌≡◌, ℕ, zero, suc, ◌<◌, ◌≤◌, ◌⊎◌, List, [], ◌∷◌, length, take, set, sym, refl, ap, subst, inl, inr, ⊎_elim, arith}
 use Rattle.std.proofs.lemmas.Bool.{cases_eq, cases_lt}
-use Rattle.std.proofs.lemmas.List.{get_or-set_same, get_or-set_other, set_past}
+use Rattle.std.proofs.lemmas.List.{get_or-set_same, get_or-set_other}
 use Rattle.reach.specs.Reach.{Among}
 use Rattle.netlist.specs.declared.edit.Edit.{Edit}
 use Rattle.netlist.specs.declared.edit.Edit.TheVariants.{Input, Output, Gate, Latch, Delete, Move}
-use Rattle.netlist.specs.Netlist.{Netlist, Driver, Signal, absent, input, gate, latch, driver_of, output_of_lem, pins_of_lem, feeders, Feeds, unused}
+use Rattle.netlist.specs.Netlist.{Netlist, Driver, Signal, absent, input, gate, latch, driver_of, pins_of_lem, feeders, Feeds, unused}
 use Rattle.netlist.specs.Places.{Order, place, Ordered, OrderedBut}
-use Rattle.netlist.specs.Edits.{drive, mark, repinned, asked, placed, puts_of_lem, signal_of_lem, Beyond, named, PinBeyond}
+use Rattle.netlist.specs.Edits.{repinned, asked, placed, puts_of_lem, signal_of_lem, Beyond, named, PinBeyond}
 
 -- a change at s changes no other driver
 set_other : (n : Netlist) (s t : ℕ) (x : Signal) → (t ≡ s → ⊥) → driver_of (set n s x) t ≡ driver_of n t

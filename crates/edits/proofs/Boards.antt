@@ -1,12 +1,11 @@
 -- The board after a change of one cell.
-use Rattle.std.proofs.Common.{◌≡◌, ℕ, zero, suc, ◌+◌, ◌*◌, ◌<◌, ◌≤◌, Bool, true, false, cond, eqb, ◌⊎◌, List, [], ◌∷◌, length, get_or, set, sym, refl, ap, ◌∙◌, subst, inl, inr, ⊎_elim, arith}
+use Rattle.std.proofs.Common.{◌≡◌, ℕ, ◌+◌, ◌*◌, ◌<◌, ◌≤◌, cond, eqb, List, [], ◌∷◌, length, set, sym, refl, ap, ◌∙◌, subst, ⊎_elim, arith}
 use Rattle.std.proofs.lemmas.Bool.{cases_eq, eq-eqb, ne_eqb, cond-true, cond-false}
-use Rattle.netlist.specs.Netlist.{Netlist, Driver, Signal, absent, input, gate, latch, driver_of, output_of_lem, pins_of_lem, unused}
+use Rattle.netlist.specs.Netlist.{pins_of_lem}
 use Rattle.netlist.specs.Places.{place}
-use Rattle.board.specs.Layout.{word, kind, output, value, seat, holder, pin}
-use Rattle.board.specs.Chain.{Chained}
-use Rattle.board.specs.Board.{listing, nets, driven, driver_at, signal_at_lem, netlist_of, order_of, pin_word, Sound}
-use Rattle.board.proofs.Listing.{listing-same, listing-set, listing-first, listing_past, length-listing}
+use Rattle.board.specs.Layout.{kind, output, value, holder, pin}
+use Rattle.board.specs.Board.{nets, driven, driver_at, signal_at_lem, netlist_of, order_of, pin_word, Sound}
+use Rattle.board.proofs.Listing.{listing-same, listing-set}
 use Rattle.edits.specs.Cells.{Cell, Changed}
 
 -- four words of pins tell the signals that they are on

@@ -1,20 +1,20 @@
 -- Each edit, from the change of its cell to the netlist that it asks for.
-use Rattle.std.proofs.Common.{◌≡◌, ℕ, zero, suc, ◌+◌, ◌*◌, ◌^◌, ◌<◌, ◌≤◌, min, Bool, true, false, cond, eqb, ltb, ◌⊎◌, List, [], ◌∷◌, length, get_or, take, set, sym, refl, ap, ◌∙◌, subst, inl, inr, ⊎_elim, arith}
+use Rattle.std.proofs.Common.{◌≡◌, ℕ, zero, suc, ◌+◌, ◌*◌, ◌^◌, ◌<◌, ◌≤◌, min, Bool, cond, eqb, ltb, List, [], ◌∷◌, length, get_or, take, set, sym, refl, ap, ◌∙◌, subst, inl, inr, ⊎_elim, arith}
 use Rattle.std.proofs.lemmas.Bool.{cases_eq, cases_lt, eq-eqb, ne_eqb, lt-ltb, le-ltb, cond-true, cond-false}
-use Rattle.std.proofs.lemmas.List.{length-take, length-set, get_or-take, get_or-set_same, get_or-set_other}
+use Rattle.std.proofs.lemmas.List.{length-take, length-set, get_or-take}
 use Rattle.netlist.specs.declared.edit.Edit.{Edit}
 use Rattle.netlist.specs.declared.edit.Edit.TheVariants.{Input, Output, Gate, Latch, Delete, Move}
-use Rattle.netlist.specs.Netlist.{Netlist, Driver, Signal, absent, input, gate, latch, driver_of, output_of_lem, pins_of_lem}
+use Rattle.netlist.specs.Netlist.{Driver, absent, input, gate, latch, driver_of, output_of_lem, pins_of_lem}
 use Rattle.netlist.specs.Edits.{asked, repinned, Pinned}
 use Rattle.board.specs.Layout.{kind, value, output, pin}
-use Rattle.board.specs.Board.{nets, driven, driver_at, netlist_of, order_of, pin_word, Sound}
+use Rattle.board.specs.Board.{driven, driver_at, netlist_of, pin_word}
 use Rattle.board.specs.Standing.{Fitting, Stands}
-use Rattle.edits.specs.Cells.{Cell, cell_at, Changed, Site, Wirable, on_nets, rewired, as_input, as_output, as_driven, as_absent, as_moved}
+use Rattle.edits.specs.Cells.{Cell, cell_at, Changed, Site, Wirable, on_nets, as_input, as_output, as_driven, as_absent, as_moved}
 use Rattle.edits.specs.Checks.{Passes}
 use Rattle.edits.specs.Entered.{Entered}
 use Rattle.board.proofs.Signals.{driver-at, output_at}
 use Rattle.edits.proofs.Boards.{changed_netlist, changed-order, changed_sound, new_driver, old_driver}
-use Rattle.board.proofs.Drivers.{pins_few, pin_word_past, pinned_two}
+use Rattle.board.proofs.Drivers.{pins_few, pin_word_past}
 use Rattle.edits.proofs.Smallest.{signal-below}
 use Rattle.edits.proofs.Netted.{net-beyond}
 

@@ -1,11 +1,11 @@
 -- Pins put in turn: what one more put adds.
-use Rattle.std.proofs.Common.{◌≡◌, ℕ, zero, suc, ◌+◌, ◌-◌, ◌*◌, ◌<◌, ◌≤◌, min, Bool, true, false, ◌⊎◌, List, [], ◌∷◌, ◌++◌, length, get_or, take, drop, sym, refl, ap, ◌∙◌, subst, inl, inr, ⊎_elim, arith}
+use Rattle.std.proofs.Common.{◌≡◌, ℕ, zero, suc, ◌+◌, ◌-◌, ◌*◌, ◌<◌, ◌≤◌, min, Bool, ◌⊎◌, List, [], ◌∷◌, ◌++◌, length, get_or, take, drop, sym, refl, ap, ◌∙◌, subst, inl, inr, ⊎_elim, arith}
 use Rattle.std.proofs.lemmas.Bool.{cases_lt, cases_Bool, cond-true, cond-false}
 use Rattle.std.proofs.lemmas.List.{length-take, length-drop, get_or-take, take_more, take_all}
 use Rattle.reach.specs.Reach.{Among}
 use Rattle.netlist.specs.Netlist.{Netlist, Feeds}
-use Rattle.netlist.specs.Places.{Order, place, those, segment, Arranges, OrderedBut, Moves, Puts, PutsAll}
-use Rattle.board.specs.Board.{netlist_of, order_of, Sound}
+use Rattle.netlist.specs.Places.{Order, place, those, segment, OrderedBut, Moves, Puts, PutsAll}
+use Rattle.board.specs.Board.{netlist_of, order_of}
 use Rattle.places.specs.Put.{Ready, Places}
 use Rattle.edits.specs.Puts.{ReadyAll, PlacedAll}
 

@@ -1,18 +1,17 @@
 -- From the change of the netlist and the puts to what an edit promises.
-use Rattle.std.proofs.Common.{◌≡◌, ℕ, zero, suc, ◌<◌, ◌≤◌, ◌⊎◌, List, [], ◌∷◌, length, drop, Some, None, Ok, Err, Option, Result, sym, refl, ap, ◌∙◌, subst, inl, inr, ⊎_elim, arith}
+use Rattle.std.proofs.Common.{◌≡◌, ℕ, ◌<◌, ◌≤◌, List, [], ◌∷◌, length, drop, None, Ok, Err, Result, sym, refl, ap, ◌∙◌, subst, arith}
 use Rattle.words.specs.Meaning.{Meaning, levels, newest, opened, kept, dropped, Opens, Keeps, Drops}
 use Rattle.words.specs.declared.store.StoreRefusal.{StoreRefusal}
-use Rattle.reach.specs.Reach.{Among}
 use Rattle.reach.specs.Listed.{along}
 use Rattle.reach.specs.declared.path.Path.{Path}
 use Rattle.netlist.specs.declared.edit.Edit.{Edit}
 use Rattle.netlist.specs.declared.edit.Edit.TheVariants.{Input, Output, Gate, Latch, Delete, Move}
 use Rattle.netlist.specs.declared.edit.Refusal.TheVariants.{Looped as LoopAsked}
 use Rattle.netlist.specs.Netlist.{Netlist, driver_of, Feeds, Loop}
-use Rattle.netlist.specs.Places.{Order, place, Arranges, Ordered, OrderedBut, PutsAll}
-use Rattle.netlist.specs.Edits.{Board, Applies, no_batch, no_signal, out_of_range, driven, wrong_kind, no_pin, in_use, looped, asked, puts_of_lem, signal_of_lem}
+use Rattle.netlist.specs.Places.{place, Arranges, Ordered, OrderedBut, PutsAll}
+use Rattle.netlist.specs.Edits.{Applies, no_batch, no_signal, out_of_range, driven, wrong_kind, no_pin, in_use, looped, asked, puts_of_lem, signal_of_lem}
 use Rattle.netlist.proofs.Loops.{order-excludes-loops}
-use Rattle.board.specs.Board.{driver_at, signal_at_lem, netlist_of, order_of, board_of, Sound}
+use Rattle.board.specs.Board.{signal_at_lem, netlist_of, order_of, board_of}
 use Rattle.board.specs.Standing.{Fitting, Stands, Inside}
 use Rattle.board.proofs.Listing.{length-listing}
 use Rattle.places.specs.declared.put.Put.{Put}

@@ -1,8 +1,8 @@
 -- One word of a signal is written, or one of its pins: what its cell is then.
-use Rattle.std.proofs.Common.{◌≡◌, ℕ, zero, suc, ◌+◌, ◌*◌, ◌<◌, ◌≤◌, Bool, true, false, cond, eqb, ltb, ◌⊎◌, List, length, get_or, set, sym, refl, ap, ◌∙◌, subst, inl, inr, ⊎_elim, arith}
+use Rattle.std.proofs.Common.{◌≡◌, ℕ, zero, suc, ◌+◌, ◌*◌, ◌<◌, ◌≤◌, Bool, true, false, cond, eqb, ltb, List, length, get_or, set, sym, refl, ap, ◌∙◌, subst, ⊎_elim, arith}
 use Rattle.std.proofs.lemmas.Bool.{cases_eq, cases_lt, eq-eqb, ne_eqb, lt-ltb, le-ltb, cond-true, cond-false}
 use Rattle.std.proofs.lemmas.List.{length-set, get_or-set_same, get_or-set_other}
-use Rattle.board.specs.Layout.{word, kind, output, value, seat, holder, first, pin, next, back, needed}
+use Rattle.board.specs.Layout.{word, kind, output, value, seat, holder, first, pin, next, back}
 use Rattle.board.specs.Chain.{Chained, Least, Greatest, Repins}
 use Rattle.edits.specs.Cells.{Cell, cell_at, Changed, Site, Wirable, on_nets, as_wired, as_driven, as_unwired, as_absent, as_moved}
 

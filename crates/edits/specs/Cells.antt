@@ -1,6 +1,6 @@
 -- What the words of a store hold of one signal, and a change of that alone.
-use Rattle.std.specs.Prelude.{◌≡◌, ℕ, suc, ◌+◌, ◌*◌, ◌<◌, ◌≤◌, cond, List, ◌∷◌, length, ◌==◌, nat_lt, slice_index}
-use Rattle.board.specs.Layout.{word, kind, output, value, seat, holder, pin}
+use Rattle.std.specs.Prelude.{◌≡◌, ℕ, suc, ◌+◌, ◌*◌, ◌<◌, ◌≤◌, cond, List, length, ◌==◌, nat_lt, slice_index}
+use Rattle.board.specs.Layout.{kind, output, value, seat, holder, pin}
 use Rattle.board.specs.Chain.{Chained}
 
 -- what drives a signal, its table or start, its output mark, and the word of each of its four pins

@@ -1,4 +1,4 @@
-use Rattle.std.proofs.Common.{◌≡◌, arith}
+use Rattle.std.proofs.Common.{arith}
 use Rattle.std.proofs.lemmas.Bool.Decides.{not_from_Decides}
 use Rattle.words.specs.Meaning.{levels}
 use Rattle.netlist.specs.Edits.{no_batch, no_signal, out_of_range, driven, wrong_kind, no_pin, in_use}

@@ -1,4 +1,4 @@
-use Rattle.std.proofs.Common.{◌≡◌, ℕ, ◌<◌, refl, ap, ◌∙◌, subst, arith}
+use Rattle.std.proofs.Common.{◌≡◌, ◌<◌, refl, ◌∙◌, subst, arith}
 use Rattle.edits.specs.Cells.{Changed, cell_at, as_unwired}
 use Rattle.edits.proofs.Writing.{unwired_none, unwired_more}
 use Rattle.edits.proofs.enter.detach_all.Goals as goal

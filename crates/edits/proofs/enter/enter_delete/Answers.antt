@@ -1,4 +1,4 @@
-use Rattle.std.proofs.Common.{◌≡◌, set, ap, ◌∙◌}
+use Rattle.std.proofs.Common.{set, ap, ◌∙◌}
 use Rattle.edits.proofs.Writing.{deleted}
 use Rattle.edits.proofs.enter.enter_delete.Goals as goal
 

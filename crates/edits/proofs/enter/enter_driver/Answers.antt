@@ -1,4 +1,4 @@
-use Rattle.std.proofs.Common.{◌≡◌, ◌+◌, ◌*◌, set, refl, ap, ◌∙◌, subst}
+use Rattle.std.proofs.Common.{◌≡◌, ◌+◌, ◌*◌, set, ap, ◌∙◌}
 use Rattle.edits.proofs.Writing.{still_wirable, driver_entered}
 use Rattle.edits.proofs.enter.enter_driver.Goals as goal
 

@@ -1,4 +1,4 @@
-use Rattle.std.proofs.Common.{◌≡◌, ◌<◌, ◌∙◌, arith}
+use Rattle.std.proofs.Common.{◌<◌, ◌∙◌, arith}
 use Rattle.edits.proofs.Writing.{moved}
 use Rattle.edits.proofs.enter.enter_move.Goals as goal
 

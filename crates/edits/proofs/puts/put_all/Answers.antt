@@ -1,7 +1,6 @@
-use Rattle.std.proofs.Common.{◌≡◌, ◌<◌, min, length, get_or, take, refl, ◌∙◌, subst, arith, rules}
+use Rattle.std.proofs.Common.{◌≡◌, length, get_or, take, refl, ◌∙◌, subst, arith, rules}
 use Rattle.netlist.specs.Netlist.{Loop}
 use Rattle.reach.specs.Listed.{along}
-use Rattle.board.specs.Board.{netlist_of}
 use Rattle.edits.proofs.Putting.{so_far_none, so_far_more, so_far_all, placed_ready, net_among}
 use Rattle.edits.proofs.puts.put_all.Goals as goal
 

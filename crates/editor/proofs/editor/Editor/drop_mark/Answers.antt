@@ -1,7 +1,7 @@
-use Rattle.std.proofs.Common.{◌≡◌, ℕ, sym, refl, ◌∙◌, subst, arith}
+use Rattle.std.proofs.Common.{◌≡◌, ℕ, refl, arith}
 use Rattle.editor.specs.declared.call.Call.TheVariants.{DropMark}
 use Rattle.editor.specs.Plain.{plain}
-use Rattle.editor.proofs.Stepping.{idle_never, steps_by, steps_make, shows_early, shows_number, shows_loop}
+use Rattle.editor.proofs.Stepping.{idle_never, steps_by}
 use Rattle.editor.proofs.editor.Editor.drop_mark.Goals as goal
 
 pub returns : goal.returns

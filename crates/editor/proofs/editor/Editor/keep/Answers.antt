@@ -1,8 +1,8 @@
-use Rattle.std.proofs.Common.{◌≡◌, ℕ, Ok, Err, sym, refl, ◌∙◌, subst, arith}
+use Rattle.std.proofs.Common.{◌≡◌, ℕ, Ok, Err, refl, subst, arith}
 use Rattle.editor.specs.declared.call.Call.TheVariants.{Keep}
 use Rattle.editor.specs.Calls.{Replies}
 use Rattle.board.specs.Board.{Sound}
-use Rattle.editor.proofs.Stepping.{idle_never, steps_by, steps_make, shows_early, shows_number, shows_loop}
+use Rattle.editor.proofs.Stepping.{idle_never, steps_by}
 use Rattle.editor.proofs.editor.Editor.keep.Goals as goal
 
 pub returns-in-Ok : goal.returns-in-Ok

@@ -1,8 +1,8 @@
-use Rattle.std.proofs.Common.{◌≡◌, ℕ, Ok, Err, sym, refl, ◌∙◌, subst, arith}
+use Rattle.std.proofs.Common.{Ok, Err, refl}
 use Rattle.netlist.specs.declared.edit.Refusal.TheVariants.{Looped}
 use Rattle.editor.specs.declared.call.Call.TheVariants.{Make}
 use Rattle.editor.specs.Shown.{shown_of}
-use Rattle.editor.proofs.Stepping.{idle_never, steps_by, steps_make, shows_early, shows_number, shows_loop}
+use Rattle.editor.proofs.Stepping.{idle_never, steps_make, shows_number, shows_loop}
 use Rattle.editor.proofs.editor.Editor.make.Goals as goal
 
 pub returns-in-Accepted : goal.returns-in-Accepted

@@ -1,7 +1,5 @@
-use Rattle.editor.specs.Making.{Fits}
 use Rattle.editor.proofs.Starting.{starts}
 use Rattle.editor.proofs.editor.Editor.new.Goals as goal
-use Rattle.std.proofs.lemmas.Bool.{not-false}
 
 pub returns : goal.returns
 returns g c = record {

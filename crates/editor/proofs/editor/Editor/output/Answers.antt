@@ -1,8 +1,8 @@
-use Rattle.std.proofs.Common.{◌≡◌, ℕ, sym, refl, ◌∙◌, subst, arith}
+use Rattle.std.proofs.Common.{refl}
 use Rattle.netlist.specs.declared.edit.Edit.TheVariants.{Output}
 use Rattle.editor.specs.declared.call.Call.TheVariants.{Make}
 use Rattle.editor.specs.Shown.{shown_of}
-use Rattle.editor.proofs.Stepping.{idle_never, steps_by, steps_make, shows_early, shows_number, shows_loop}
+use Rattle.editor.proofs.Stepping.{idle_never, steps_make, shows_early}
 use Rattle.editor.proofs.editor.Editor.output.Goals as goal
 
 pub returns : goal.returns
