@@ -3,7 +3,7 @@
 
 usage: tools/respell.py     at the top of the repository, once, after the kit's own script has turned the files
 
-A dash stays in a lemma where it joins two names, as in the kit's length-drop; a definition that would have the name of a function gets _lem.
+A dash stays in a lemma where it joins two names, as in the kit's length-drop; a definition that would have the name of a function of its own crate gets _lem.
 Names of functions, strings, inputs and outputs stay. A word behind a dot is turned only where it is a field of a record below.
 """
 
@@ -235,6 +235,7 @@ headed-cell headed_cell
 hear-known hear_known
 hear-more hear_more
 hear-old hear_old
+heldBack held_back
 here-feeds here_feeds
 here-set here_set
 high-else high_else
@@ -302,6 +303,7 @@ left-some left_some
 lent-notes lent_notes
 lent-rest lent_rest
 level-within level_within
+levelsOf levels_of
 limit-now limit_now
 limit-three limit_three
 lines-cover lines_cover
@@ -347,6 +349,7 @@ netlistOf netlist_of
 nets-few nets_few
 nets-some nets_some
 netsAt nets_at
+netsOf nets_of
 never-differs never_differs
 never-refused never_refused
 new-driver new_driver
@@ -429,7 +432,7 @@ other-back other_back
 other-onward other_onward
 other-placed other_placed
 output-at output_at
-outputOf output_of_lem
+outputOf output_of
 over-greatest over_greatest
 over-least over_least
 owed-fewer owed_fewer
@@ -456,6 +459,7 @@ permutes-shuffled permutes_shuffled
 pin-number pin_number
 pin-off pin_off
 pin-used pin_used
+pinOf pin_of
 pinWord pin_word
 pinWord-at pin_word_at
 pinWord-none pin_word-none
@@ -465,7 +469,7 @@ pinWords pin_words_lem
 pinned-two pinned_two
 pins-few pins_few
 pins-few-of pins_few_of
-pinsOf pins_of_lem
+pinsOf pins_of
 place-right place_right
 place-seg place_seg
 place-small place_small
@@ -489,7 +493,7 @@ puts-determined puts_determined
 puts-feed puts_feed
 puts-few puts_few
 puts-more puts_more
-putsOf puts_of_lem
+putsOf puts_of
 re-fits re_fits
 re-own re_own
 re-pinned re_pinned
@@ -502,7 +506,7 @@ reads-fault reads_fault
 reads-table reads_table
 really-absent really_absent
 really-pinned really_pinned
-refusalOf refusal_of_lem
+refusalOf refusal_of
 refused-breaks refused_breaks
 refused-drop refused_drop
 released-none released_none
@@ -558,8 +562,8 @@ shows-early shows_early
 shows-loop shows_loop
 shows-number shows_number
 shows-turned shows_turned
-signalAt signal_at_lem
-signalOf signal_of_lem
+signalAt signal_at
+signalOf signal_of
 size-more size_more
 smallest-turned smallest_turned
 snapshotLent snapshot_lent
@@ -650,10 +654,12 @@ upto-more upto_more
 upto-stops upto_stops
 upward-cases upward_cases
 upward-least upward_least
+upwardOf upward_of
 value-all value_all
 value-is value_is
 value-more value_more
 value-within value_within
+valueWordOf value_word_of
 walk-goes walk_goes
 walked-holds walked_holds
 walked-read walked_read

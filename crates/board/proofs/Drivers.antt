@@ -2,9 +2,9 @@
 use Rattle.std.proofs.Common.{◌≡◌, ℕ, zero, suc, ◌+◌, ◌*◌, ◌/◌, ◌%◌, ◌<◌, ◌≤◌, not, eqb, leb, List, [], ◌∷◌, length, get_or, Decides, sym, refl, ap, ◌∙◌, subst, inl, inr, ⊎_elim, arith}
 use Rattle.std.proofs.lemmas.Bool.{cases_lt, eq-eqb, ne_eqb, eqb-true, leb-true, le-leb, not-true, eqb-false, not_from_false}
 use Rattle.reach.specs.Reach.{Among}
-use Rattle.netlist.specs.Netlist.{Driver, absent, input, gate, latch, driver_of, output_of_lem, pins_of_lem, Used}
+use Rattle.netlist.specs.Netlist.{Driver, absent, input, gate, latch, driver_of, output_of, pins_of, Used}
 use Rattle.netlist.specs.declared.edit.Edit.TheVariants.{Move}
-use Rattle.netlist.specs.Edits.{Pinned, placed, puts_of_lem}
+use Rattle.netlist.specs.Edits.{Pinned, placed, puts_of}
 use Rattle.board.specs.Layout.{word, kind, value, first, pin}
 use Rattle.board.specs.Chain.{Least}
 use Rattle.board.specs.Board.{nets, driven, driver_at, netlist_of, pin_word, Sound}
@@ -63,7 +63,7 @@ module _ (m : ℕ) (ws : List ℕ) (s at w : ℕ) (below : s < m) (told : w ≡ 
         λ pinned. le-leb 2 w (subst (λ x. 2 ≤ x) (sym k) (pinned_two (kind m ws s) _ _ (subst Pinned d pinned))),
       )
 
-  pub tells_output : at ≡ m + s → eqb w 1 ≡ output_of_lem (netlist_of m ws) s
+  pub tells_output : at ≡ m + s → eqb w 1 ≡ output_of (netlist_of m ws) s
   tells_output e = ap (λ x. eqb x 1) (told ∙ ap (word ws) e) ∙ sym (output_at m ws s below)
 
 -- ---- pins
@@ -95,13 +95,13 @@ nets_few (suc a) (suc b) zero d = omega arith
 nets_few (suc a) (suc b) (suc c) zero = omega arith
 nets_few (suc a) (suc b) (suc c) (suc d) = omega arith
 
-pins_few_of : (k v : ℕ) (on : List ℕ) → length on ≤ 4 → length (pins_of_lem (driven k v on)) ≤ 4
+pins_few_of : (k v : ℕ) (on : List ℕ) → length on ≤ 4 → length (pins_of (driven k v on)) ≤ 4
 pins_few_of zero v on h = omega arith
 pins_few_of (suc zero) v on h = omega arith
 pins_few_of (suc (suc zero)) v on h = h
 pins_few_of (suc (suc (suc k))) v on h = omega arith
 
-pub pins_few : (m : ℕ) (ws : List ℕ) (s : ℕ) → length (pins_of_lem (driver_at m ws s)) ≤ 4
+pub pins_few : (m : ℕ) (ws : List ℕ) (s : ℕ) → length (pins_of (driver_at m ws s)) ≤ 4
 pins_few m ws s = pins_few_of (kind m ws s) (value m ws s) _ (nets_few (pin m ws (4 * s)) (pin m ws (4 * s + 1)) (pin m ws (4 * s + 2)) (pin m ws (4 * s + 3)))
 
 -- a signal is used exactly where some pin's word says so
@@ -110,17 +110,17 @@ module _ (m : ℕ) (ws : List ℕ) (sound : Sound m ws) where
   used-pin a (t, h) =
       ⊎_elim
       (λ lt.
-      let (i, few, e) = among_pin_word (pins_of_lem (driver_at m ws t)) a (subst (λ d. Among a (pins_of_lem d)) (driver-at m ws t lt) h) in
+      let (i, few, e) = among_pin_word (pins_of (driver_at m ws t)) a (subst (λ d. Among a (pins_of d)) (driver-at m ws t lt) h) in
       let four : i < 4 = omega (arith, pins_few m ws t) in (4 * t + i, omega arith, sound.spelled t i lt four ∙ e))
-      (λ le. absurd (subst (λ d. Among a (pins_of_lem d)) (driver_past m ws t le) h))
+      (λ le. absurd (subst (λ d. Among a (pins_of d)) (driver_past m ws t le) h))
       (cases_lt t m)
 
   pin_used : (a q : ℕ) → q < 4 * m → pin m ws q ≡ suc a → Used (netlist_of m ws) a
   pin_used a q lt e =
       let lt4 : q / 4 < m = omega arith in
       let split : 4 * (q / 4) + q % 4 ≡ q = omega arith in
-      let word : pin_word (pins_of_lem (driver_at m ws (q / 4))) (q % 4) ≡ suc a = sym (sound.spelled (q / 4) (q % 4) lt4 (omega arith)) ∙ ap (pin m ws) split ∙ e in
-      (q / 4, subst (λ d. Among a (pins_of_lem d)) (sym (driver-at m ws (q / 4) lt4)) (pin_word_within (pins_of_lem (driver_at m ws (q / 4))) (q % 4) a word))
+      let word : pin_word (pins_of (driver_at m ws (q / 4))) (q % 4) ≡ suc a = sym (sound.spelled (q / 4) (q % 4) lt4 (omega arith)) ∙ ap (pin m ws) split ∙ e in
+      (q / 4, subst (λ d. Among a (pins_of d)) (sym (driver-at m ws (q / 4) lt4)) (pin_word_within (pins_of (driver_at m ws (q / 4))) (q % 4) a word))
 
   first_used : (a r : ℕ) → Least (pin m ws) (4 * m) (suc a) 0 r → Decides (not (eqb r 0)) (Used (netlist_of m ws) a)
   first_used a zero h = (λ e. absurd (let z : ◌≡◌ {A = ℕ} 0 1 = cc in omega arith), λ u. let (q, lt, e) = used-pin a u in absurd (h q (omega arith) lt e))
@@ -130,16 +130,16 @@ module _ (m : ℕ) (ws : List ℕ) (sound : Sound m ws) where
   tells_used a at w lt told e =
       subst (λ x. Decides (not (eqb x 0)) (Used (netlist_of m ws) a)) (sym (told ∙ ap (word ws) e)) (first_used a (first m ws a) (sound.chained.firsts a lt))
 
-  pub tells_pin : (s i at w : ℕ) → s < m → i < 4 → w ≡ get_or ws at 0 → at ≡ 6 * m + (4 * s + i) → Decides (eqb w 0) (length (pins_of_lem (driver_of (netlist_of m ws) s)) ≤ i)
+  pub tells_pin : (s i at w : ℕ) → s < m → i < 4 → w ≡ get_or ws at 0 → at ≡ 6 * m + (4 * s + i) → Decides (eqb w 0) (length (pins_of (driver_of (netlist_of m ws) s)) ≤ i)
   tells_pin s i at w lt four told e =
-      let k : w ≡ pin_word (pins_of_lem (driver_at m ws s)) i = told ∙ ap (word ws) e ∙ sound.spelled s i lt four in
-      let d : length (pins_of_lem (driver_of (netlist_of m ws) s)) ≡ length (pins_of_lem (driver_at m ws s)) = ap (λ x. length (pins_of_lem x)) (driver-at m ws s lt) in (
-        λ yes. omega (arith, d, pin_word-none (pins_of_lem (driver_at m ws s)) i (sym k ∙ eqb-true w 0 yes)),
-        λ le. eq-eqb w 0 (k ∙ pin_word_past (pins_of_lem (driver_at m ws s)) i (omega (arith, d))),
+      let k : w ≡ pin_word (pins_of (driver_at m ws s)) i = told ∙ ap (word ws) e ∙ sound.spelled s i lt four in
+      let d : length (pins_of (driver_of (netlist_of m ws) s)) ≡ length (pins_of (driver_at m ws s)) = ap (λ x. length (pins_of x)) (driver-at m ws s lt) in (
+        λ yes. omega (arith, d, pin_word-none (pins_of (driver_at m ws s)) i (sym k ∙ eqb-true w 0 yes)),
+        λ le. eq-eqb w 0 (k ∙ pin_word_past (pins_of (driver_at m ws s)) i (omega (arith, d))),
       )
 
-  pub few_pins : (s i : ℕ) → s < m → 3 < i → length (pins_of_lem (driver_of (netlist_of m ws) s)) ≤ i
-  few_pins s i lt gt = omega (arith, pins_few m ws s, ap (λ x. length (pins_of_lem x)) (driver-at m ws s lt))
+  pub few_pins : (s i : ℕ) → s < m → 3 < i → length (pins_of (driver_of (netlist_of m ws) s)) ≤ i
+  few_pins s i lt gt = omega (arith, pins_few m ws s, ap (λ x. length (pins_of x)) (driver-at m ws s lt))
 
 -- ---- where a moved pin is put
 
@@ -153,8 +153,8 @@ other_placed (suc (suc zero)) v on a ne = absurd (ne refl)
 other_placed (suc (suc (suc k))) v on a ne = refl
 
 module _ (m : ℕ) (ws : List ℕ) (s i a at w : ℕ) (told : w ≡ get_or ws at 0) (where' : at ≡ s) (below : s < m) where
-  pub puts_one : w ≡ 2 → a ∷ [] ≡ puts_of_lem (netlist_of m ws) (Move s i a)
+  pub puts_one : w ≡ 2 → a ∷ [] ≡ puts_of (netlist_of m ws) (Move s i a)
   puts_one e = sym (ap (λ d. placed d a) (driver-at m ws s below) ∙ gate-placed (kind m ws s) _ _ a (sym (told ∙ ap (word ws) where') ∙ e))
 
-  pub puts_none : (w ≡ 2 → ⊥) → [] ≡ puts_of_lem (netlist_of m ws) (Move s i a)
+  pub puts_none : (w ≡ 2 → ⊥) → [] ≡ puts_of (netlist_of m ws) (Move s i a)
   puts_none ne = sym (ap (λ d. placed d a) (driver-at m ws s below) ∙ other_placed (kind m ws s) _ _ a (λ e. ne (told ∙ ap (word ws) where' ∙ e)))

@@ -2,7 +2,7 @@
 use Rattle.std.proofs.Common.{◌≡◌, ℕ, zero, suc, ◌+◌, ◌*◌, ◌/◌, ◌%◌, ◌<◌, ◌≤◌, Bool, true, false, cond, eqb, ltb, List, [], ◌∷◌, length, sym, refl, ap, ◌∙◌, subst, inl, inr, ⊎_elim, arith}
 use Rattle.std.proofs.lemmas.Bool.{cases_lt, cases_order, eqb-true, eqb-false, ltb-false, lt-ltb, le-ltb, eq-eqb, ne_eqb, cond-true, cond-false}
 use Rattle.reach.specs.Reach.{Among, Follows}
-use Rattle.netlist.specs.Netlist.{pins_of_lem, feeders, Feeds}
+use Rattle.netlist.specs.Netlist.{pins_of, feeders, Feeds}
 use Rattle.netlist.specs.Places.{place}
 use Rattle.board.specs.Layout.{kind, value, seat, first, pin, next}
 use Rattle.board.specs.Chain.{Least, Chained}
@@ -26,8 +26,8 @@ among_pin (suc x ∷ pins) a h =
     (λ rest. let found = among_pin pins a rest in (suc found.0, omega (arith, found.1), found.2))
     h
 
-gate-pins : (k v : ℕ) (on : List ℕ) → k ≡ 2 → pins_of_lem (driven k v on) ≡ on
-gate-pins k v on e = ap (λ j. pins_of_lem (driven j v on)) e
+gate-pins : (k v : ℕ) (on : List ℕ) → k ≡ 2 → pins_of (driven k v on) ≡ on
+gate-pins k v on e = ap (λ j. pins_of (driven j v on)) e
 
 gate-feeders : (k v : ℕ) (on : List ℕ) → k ≡ 2 → feeders (driven k v on) ≡ on
 gate-feeders k v on e = ap (λ j. feeders (driven j v on)) e

@@ -1,6 +1,6 @@
 // The chains of pins: a pin goes onto a signal, or off the one that it is on.
 ghost use Rattle.std.specs.Prelude.{◌≡◌, suc, ◌*◌, ◌<◌};
-ghost use Rattle.board.specs.Layout.{pin as pinOf};
+ghost use Rattle.board.specs.Layout.{pin as pin_of};
 ghost use Rattle.board.specs.Chain.{Least, Greatest, Chained, Repins};
 ghost use Rattle.board.specs.Links.{changed, onward_at_lem, backed, joined, inserted, removed};
 
@@ -17,7 +17,7 @@ struct Gap {
 
 // Pin number `pin`, which is on no signal, goes onto `signal`.
 pub fn attach<S: Store>(store: &mut S, layout: Layout, pin: u32, signal: u32)
-    ensures attaches { Chained layout.signals (S.Store.model store.old).image → pin < 4 * layout.signals → pin < 4294967295 → signal < layout.signals → pinOf layout.signals (S.Store.model store.old).image pin ≡ 0 → Repins layout.signals (S.Store.model store.old).image pin (suc signal) (S.Store.model store.new).image }
+    ensures attaches { Chained layout.signals (S.Store.model store.old).image → pin < 4 * layout.signals → pin < 4294967295 → signal < layout.signals → pin_of layout.signals (S.Store.model store.old).image pin ≡ 0 → Repins layout.signals (S.Store.model store.old).image pin (suc signal) (S.Store.model store.new).image }
     ensures levels { (S.Store.model store.new).saved ≡ (S.Store.model store.old).saved }
     ensures limit { (S.Store.model store.new).limit ≡ (S.Store.model store.old).limit }
     ensures behind { S.Store.lent store.new ≡ S.Store.lent store.old }
@@ -31,8 +31,8 @@ pub fn attach<S: Store>(store: &mut S, layout: Layout, pin: u32, signal: u32)
 
 // Pin number `pin` goes off the signal that it is on, if it is on one.
 pub fn detach<S: Store>(store: &mut S, layout: Layout, pin: u32)
-    ensures detaches { Chained layout.signals (S.Store.model store.old).image → pin < 4 * layout.signals → 0 < pinOf layout.signals (S.Store.model store.old).image pin → Repins layout.signals (S.Store.model store.old).image pin 0 (S.Store.model store.new).image }
-    ensures idle { pinOf layout.signals (S.Store.model store.old).image pin ≡ 0 → S.Store.model store.new ≡ S.Store.model store.old }
+    ensures detaches { Chained layout.signals (S.Store.model store.old).image → pin < 4 * layout.signals → 0 < pin_of layout.signals (S.Store.model store.old).image pin → Repins layout.signals (S.Store.model store.old).image pin 0 (S.Store.model store.new).image }
+    ensures idle { pin_of layout.signals (S.Store.model store.old).image pin ≡ 0 → S.Store.model store.new ≡ S.Store.model store.old }
     ensures levels { (S.Store.model store.new).saved ≡ (S.Store.model store.old).saved }
     ensures limit { (S.Store.model store.new).limit ≡ (S.Store.model store.old).limit }
     ensures behind { S.Store.lent store.new ≡ S.Store.lent store.old }
@@ -53,7 +53,7 @@ pub fn detach<S: Store>(store: &mut S, layout: Layout, pin: u32)
 
 // Where a pin belongs in the chain of a signal. The walk goes upward only, so that it ends on any words.
 fn find_gap<S: Store>(store: &S, layout: Layout, pin: u32, signal: u32) -> Gap
-    ensures { Chained layout.signals (S.Store.model store.now).image → pin < 4 * layout.signals → signal < layout.signals → Greatest (pinOf layout.signals (S.Store.model store.now).image) (suc signal) pin result.before × Least (pinOf layout.signals (S.Store.model store.now).image) (4 * layout.signals) (suc signal) pin result.behind }
+    ensures { Chained layout.signals (S.Store.model store.now).image → pin < 4 * layout.signals → signal < layout.signals → Greatest (pin_of layout.signals (S.Store.model store.now).image) (suc signal) pin result.before × Least (pin_of layout.signals (S.Store.model store.now).image) (4 * layout.signals) (suc signal) pin result.behind }
 {
     let mut before = 0;
     let mut behind = read(store, layout.first(signal));

@@ -1,6 +1,6 @@
 // The gates that a signal feeds, told from the chain of the pins on it.
 ghost use Rattle.std.specs.Prelude.{◌≡◌};
-ghost use Rattle.board.specs.Fanout.{gate_of_lem, upward as upwardOf, rest_of, fed_by};
+ghost use Rattle.board.specs.Fanout.{gate_of_lem, upward as upward_of, rest_of, fed_by};
 
 use crate::access::read;
 use crate::layout::Layout;
@@ -63,7 +63,7 @@ fn gate_of<S: Store>(store: &S, layout: Layout, upto: u32, start: u32, pin: u32)
 
 // A link that does not lead upward ends its chain.
 fn upward(edge: u32, link: u32) -> u32
-    ensures { result ≡ upwardOf edge link }
+    ensures { result ≡ upward_of edge link }
 {
     if edge < link { link } else { 0 }
 }

@@ -15,10 +15,10 @@ use Rattle.editor.specs.declared.call.Call.TheVariants.{Begin, Mark, KeepMark, D
 use Rattle.editor.specs.Calls.{Declines, Refuses, Replies, EqualWordsReplyAlike}
 
 -- the refusal that has a number
-abbrev refusal_of_lem : ℕ → Refusal
-refusal_of_lem k = cond (eqb k 1) NoEditor (cond (eqb k 10) NoBatch (cond (eqb k 11) BatchOpen (cond (eqb k 12) NoSuchSignal (cond (eqb k 13) OutOfRange (cond (eqb k 14) Driven (cond (eqb k 15) NotDriven (cond (eqb k 16) NoSuchPin (cond (eqb k 19) InUse (cond (eqb k 20) NoLevelForMark (cond (eqb k 21) NoMark (cond (eqb k 22) MarkOpen (cond (eqb k 24) AbsentInUse (Looped)))))))))))))
+abbrev refusal_of : ℕ → Refusal
+refusal_of k = cond (eqb k 1) NoEditor (cond (eqb k 10) NoBatch (cond (eqb k 11) BatchOpen (cond (eqb k 12) NoSuchSignal (cond (eqb k 13) OutOfRange (cond (eqb k 14) Driven (cond (eqb k 15) NotDriven (cond (eqb k 16) NoSuchPin (cond (eqb k 19) InUse (cond (eqb k 20) NoLevelForMark (cond (eqb k 21) NoMark (cond (eqb k 22) MarkOpen (cond (eqb k 24) AbsentInUse (Looped)))))))))))))
 
-refusal-of : (r : Refusal) → refusal_of_lem (number r) ≡ r
+refusal-of : (r : Refusal) → refusal_of (number r) ≡ r
 refusal-of NoEditor = refl
 refusal-of NoBatch = refl
 refusal-of BatchOpen = refl
@@ -35,7 +35,7 @@ refusal-of AbsentInUse = refl
 refusal-of Looped = refl
 
 pub same-refusal : (r t : Refusal) → number r ≡ number t → r ≡ t
-same-refusal r t e = sym (refusal-of r) ∙ ap refusal_of_lem e ∙ refusal-of t
+same-refusal r t e = sym (refusal-of r) ∙ ap refusal_of e ∙ refusal-of t
 
 module _ (m : ℕ) (a b a' b' : Meaning) (image : a.image ≡ b.image) (limit : a.limit ≡ b.limit) (open' : levels a ≡ levels b) where
   forth : (c : Call) (k : ℕ) → Refuses m a c k → Refuses m b c k

@@ -3,12 +3,12 @@ use Rattle.std.proofs.Common.{◌≡◌, ℕ, zero, suc, ◌+◌, ◌*◌, ◌<�
 use Rattle.std.proofs.lemmas.List.{get_or_past, get_or-replicate, length-replicate}
 use Rattle.std.proofs.lemmas.Bool.{cases_lt, eq-eqb, ne_eqb, cond-true, cond-false}
 use Rattle.reach.specs.Reach.{Among}
-use Rattle.netlist.specs.Netlist.{absent, unused, driver_of, feeders, pins_of_lem, empty_netlist}
+use Rattle.netlist.specs.Netlist.{absent, unused, driver_of, feeders, pins_of, empty_netlist}
 use Rattle.netlist.specs.Places.{Order, place, counted, first_order, Arranges, Ordered}
 use Rattle.netlist.specs.Edits.{empty_board}
 use Rattle.board.specs.Layout.{word, kind, output, seat, holder, pin}
 use Rattle.board.specs.Chain.{Least, Chained}
-use Rattle.board.specs.Board.{listing, driven, driver_at, signal_at_lem, netlist_of, order_of, board_of, pin_word, Sound}
+use Rattle.board.specs.Board.{listing, driven, driver_at, signal_at, netlist_of, order_of, board_of, pin_word, Sound}
 use Rattle.board.specs.Standing.{Fitting, Stands}
 use Rattle.board.proofs.Listing.{listing-same}
 
@@ -77,7 +77,7 @@ module _ (m : ℕ) (ws : List ℕ) (long : 18 * m ≤ length ws) (zeros : (at : 
 
   laid_netlist : netlist_of m ws ≡ empty_netlist m
   laid_netlist =
-      listing-same (signal_at_lem m ws) (λ s. unused) 0 m
+      listing-same (signal_at m ws) (λ s. unused) 0 m
       (λ s le lt. let d = laid_driver s (omega arith) in let o = laid_output s (omega arith) in λ i. record { driver = d i; output = o i })
       ∙ listing_one unused 0 m
 
@@ -103,7 +103,7 @@ module _ (m : ℕ) (ws : List ℕ) (long : 18 * m ≤ length ws) (zeros : (at : 
   laid_sound : Sound m ws
   laid_sound = record {
     chained = laid_chained;
-    spelled = λ s i lt few. no_pin (4 * s + i) ∙ sym (ap (λ d. pin_word (pins_of_lem d) i) (laid_driver s lt));
+    spelled = λ s i lt few. no_pin (4 * s + i) ∙ sym (ap (λ d. pin_word (pins_of d) i) (laid_driver s lt));
     seated = λ s lt. seats s lt ∙ sym (ap (λ o. place o s) laid_order ∙ place-first m s lt);
   }
 

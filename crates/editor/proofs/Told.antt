@@ -1,7 +1,7 @@
 -- What the words of a signal tell.
 use Rattle.std.proofs.Common.{◌≡◌, ℕ, zero, suc, ◌+◌, ◌*◌, ◌<◌, ◌≤◌, List, [], ◌∷◌, length, get_or, Some, None, Option, sym, refl, ap, ◌∙◌, subst, ⊎_elim, arith, MatchOption}
 use Rattle.std.proofs.lemmas.Bool.{cases_lt}
-use Rattle.netlist.specs.Netlist.{Driver, absent, input, gate, latch, driver_of, pins_of_lem}
+use Rattle.netlist.specs.Netlist.{Driver, absent, input, gate, latch, driver_of, pins_of}
 use Rattle.board.specs.Layout.{word, kind, value, holder}
 use Rattle.board.specs.Board.{nets, driven, netlist_of, order_of}
 use Rattle.board.specs.Standing.{Fitting, Stands}
@@ -78,12 +78,12 @@ module _ (m : ℕ) (ws : List ℕ) (s : ℕ) where
 
   -- ---- pins
 
-  pub gate-pins : (r : Pins) (words : List ℕ) → words ≡ pin_words_lem m ws s → AreOn r (nets words) → Gate ≡ kind_of the_driver → AreOn r (pins_of_lem the_driver)
-  gate-pins r words is h e = subst (AreOn r) (ap nets is ∙ sym (ap pins_of_lem (gate_is e))) h
+  pub gate-pins : (r : Pins) (words : List ℕ) → words ≡ pin_words_lem m ws s → AreOn r (nets words) → Gate ≡ kind_of the_driver → AreOn r (pins_of the_driver)
+  gate-pins r words is h e = subst (AreOn r) (ap nets is ∙ sym (ap pins_of (gate_is e))) h
 
   pub latch-pins : (r : Pins) (words : List ℕ) → words ≡ pin_words_lem m ws s → AreOn r (get_or (nets words) 0 0 ∷ []) → Latch ≡ kind_of the_driver
-      → AreOn r (pins_of_lem the_driver)
-  latch-pins r words is h e = subst (AreOn r) (ap (λ l. get_or (nets l) 0 0 ∷ []) is ∙ sym (ap pins_of_lem (latch_is e))) h
+      → AreOn r (pins_of the_driver)
+  latch-pins r words is h e = subst (AreOn r) (ap (λ l. get_or (nets l) 0 0 ∷ []) is ∙ sym (ap pins_of (latch_is e))) h
 
 pub no_start : (d : Driver) (k : Kind) → k ≡ kind_of d → (k ≡ Latch → ⊥) → None ≡ start_of d
 no_start absent k e other = refl

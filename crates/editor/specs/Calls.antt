@@ -4,9 +4,9 @@ use Rattle.words.specs.Meaning.{Meaning, levels, opened, kept, dropped}
 use Rattle.netlist.specs.declared.edit.Refusal.{Refusal}
 use Rattle.netlist.specs.declared.edit.Refusal.TheVariants.{NoEditor}
 use Rattle.netlist.specs.Refusals.{number}
-use Rattle.netlist.specs.Netlist.{Netlist, absent, driver_of, output_of_lem, Used}
+use Rattle.netlist.specs.Netlist.{Netlist, absent, driver_of, output_of, Used}
 use Rattle.netlist.specs.Places.{PutsAll}
-use Rattle.netlist.specs.Edits.{Applies, asked, puts_of_lem, signal_of_lem}
+use Rattle.netlist.specs.Edits.{Applies, asked, puts_of, signal_of}
 use Rattle.board.specs.Board.{netlist_of, order_of}
 use Rattle.board.specs.Standing.{Inside}
 use Rattle.editor.specs.declared.call.Call.{Call}
@@ -16,7 +16,7 @@ use Rattle.editor.specs.declared.call.Call.TheVariants.{Begin, Mark, KeepMark, D
 pub record Missing (m : ℕ) (n : Netlist) (s : ℕ) : Type 0 where
   pub signal : s < m
   pub gone : driver_of n s ≡ absent
-  pub wanted : Used n s ⊎ (output_of_lem n s ≡ true)
+  pub wanted : Used n s ⊎ (output_of n s ≡ true)
 
 -- The numbers that apply to a call with limit D, so many open levels and a netlist. A batch is open when a level is; every further level is a mark.
 abbrev pub Declines : ℕ → ℕ → ℕ → Netlist → Call → ℕ → Type 0
@@ -47,7 +47,7 @@ Does m a Keep a' count = (a' ≡ kept a) × (count ≡ 0)
 Does m a Drop a' count = (a' ≡ emptied a) × (count ≡ 0)
 Does m a (Make e) a' count =
     Inside a a' × (netlist_of m a'.image ≡ asked (netlist_of m a.image) e)
-    × PutsAll (asked (netlist_of m a.image) e) (order_of m a.image) (signal_of_lem e) (puts_of_lem (netlist_of m a.image) e) (order_of m a'.image) count
+    × PutsAll (asked (netlist_of m a.image) e) (order_of m a.image) (signal_of e) (puts_of (netlist_of m a.image) e) (order_of m a'.image) count
 
 -- the numbers that apply to a call on a store
 abbrev pub Refuses : ℕ → Meaning → Call → ℕ → Type 0

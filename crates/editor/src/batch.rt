@@ -1,8 +1,8 @@
 // Batches and marks over a store: a batch is its first open level, every further level is a mark.
 ghost use Rattle.std.specs.Prelude.{◌≡◌, ℕ, ◌<◌, ◌≤◌, true, ◌⊎◌, Decides, MatchOption};
-ghost use Rattle.words.specs.Meaning.{levels as levelsOf};
+ghost use Rattle.words.specs.Meaning.{levels as levels_of};
 ghost use Rattle.netlist.specs.Refusals.{number};
-ghost use Rattle.netlist.specs.Netlist.{absent, driver_of, output_of_lem, Used};
+ghost use Rattle.netlist.specs.Netlist.{absent, driver_of, output_of, Used};
 ghost use Rattle.board.specs.Board.{netlist_of, Sound};
 ghost use Rattle.editor.specs.declared.call.Call.TheVariants.{Begin, Mark, KeepMark, DropMark, Keep, Drop};
 ghost use Rattle.editor.specs.Calls.{Missing, Refuses, Replies, emptied};
@@ -44,7 +44,7 @@ pub(crate) fn open_mark<S: Store>(store: &mut S) -> Result<(), Refusal>
 
 // Why there is no mark to close.
 fn mark_refusal<S: Store>(store: &S) -> Option<Refusal>
-    ensures { MatchOption result (1 < levelsOf (S.Store.model store.now)) (λ e. (m : ℕ) → Refuses m (S.Store.model store.now) KeepMark (number e) × ((k : ℕ) → k < number e → Refuses m (S.Store.model store.now) KeepMark k → ⊥)) }
+    ensures { MatchOption result (1 < levels_of (S.Store.model store.now)) (λ e. (m : ℕ) → Refuses m (S.Store.model store.now) KeepMark (number e) × ((k : ℕ) → k < number e → Refuses m (S.Store.model store.now) KeepMark k → ⊥)) }
 {
     match store.levels() {
         0 => Some(Refusal::NoBatch),
@@ -141,7 +141,7 @@ fn is_absent<S: Store>(store: &S, layout: Layout, signal: u32) -> bool
 // A pin is on the signal, or it is an output.
 fn is_wanted<S: Store>(store: &S, layout: Layout, signal: u32) -> bool
     requires { signal < layout.signals }
-    ensures { Sound layout.signals (S.Store.model store.now).image → Decides result (Used (netlist_of layout.signals (S.Store.model store.now).image) signal ⊎ (output_of_lem (netlist_of layout.signals (S.Store.model store.now).image) signal ≡ true)) }
+    ensures { Sound layout.signals (S.Store.model store.now).image → Decides result (Used (netlist_of layout.signals (S.Store.model store.now).image) signal ⊎ (output_of (netlist_of layout.signals (S.Store.model store.now).image) signal ≡ true)) }
 {
     read(store, layout.first(signal)) != 0 || read(store, layout.output(signal)) == 1
 }

@@ -1,7 +1,7 @@
 // The editor: M signals in the words of any store, and the loop that is shown.
 ghost use Rattle.std.specs.Prelude.{◌≡◌, ℕ, ◌-◌, ◌<◌, ◌≤◌, List, [], replicate, Decides, MatchOption, slice_index};
-ghost use Rattle.words.specs.Meaning.{levels as levelsOf};
-ghost use Rattle.netlist.specs.Netlist.{driver_of, output_of_lem, pins_of_lem};
+ghost use Rattle.words.specs.Meaning.{levels as levels_of};
+ghost use Rattle.netlist.specs.Netlist.{driver_of, output_of, pins_of};
 ghost use Rattle.netlist.specs.Places.{place as place_of};
 ghost use Rattle.board.specs.Board.{netlist_of, order_of};
 ghost use Rattle.netlist.specs.declared.edit.Edit.TheVariants.{Input, Output, Gate, Latch, Delete, Move};
@@ -331,21 +331,21 @@ impl<S: Store> Editor<S> {
 
     // how many levels are open
     pub fn levels(&self) -> usize
-        ensures { result ≡ levelsOf (S.Store.model self.now.store) }
+        ensures { result ≡ levels_of (S.Store.model self.now.store) }
     {
         self.store.levels()
     }
 
     // whether a batch is open
     pub fn batch_open(&self) -> bool
-        ensures { Decides result (0 < levelsOf (S.Store.model self.now.store)) }
+        ensures { Decides result (0 < levels_of (S.Store.model self.now.store)) }
     {
         self.store.levels() > 0
     }
 
     // every level but that of the batch is a mark
     pub fn marks_open(&self) -> usize
-        ensures { result ≡ levelsOf (S.Store.model self.now.store) - 1 }
+        ensures { result ≡ levels_of (S.Store.model self.now.store) - 1 }
     {
         self.store.levels().saturating_sub(1)
     }
@@ -358,14 +358,14 @@ impl<S: Store> Editor<S> {
     }
 
     pub fn output_mark(&self, signal: u32) -> Option<bool>
-        ensures { MatchOption result (self.now.signals ≤ signal) (λ o. (signal < self.now.signals) × (o ≡ output_of_lem (netlist_of self.now.signals (S.Store.model self.now.store).image) signal)) }
+        ensures { MatchOption result (self.now.signals ≤ signal) (λ o. (signal < self.now.signals) × (o ≡ output_of (netlist_of self.now.signals (S.Store.model self.now.store).image) signal)) }
     {
         output_of(&self.store, self.layout(), signal)
     }
 
     // the signals that its pins are on
     pub fn pins(&self, signal: u32) -> Option<Pins>
-        ensures { MatchOption result (self.now.signals ≤ signal) (λ p. (signal < self.now.signals) × AreOn p (pins_of_lem (driver_of (netlist_of self.now.signals (S.Store.model self.now.store).image) signal))) }
+        ensures { MatchOption result (self.now.signals ≤ signal) (λ p. (signal < self.now.signals) × AreOn p (pins_of (driver_of (netlist_of self.now.signals (S.Store.model self.now.store).image) signal))) }
     {
         pins_of(&self.store, self.layout(), signal)
     }

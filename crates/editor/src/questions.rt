@@ -1,10 +1,10 @@
 // What the words tell of a signal or a place, each at a cost that does not grow with the netlist.
 ghost use Rattle.std.specs.Prelude.{◌≡◌, ◌<◌, ◌≤◌, [], ◌∷◌, length, MatchOption, slice_index};
 ghost use Rattle.table.specs.Table.{IsTable};
-ghost use Rattle.netlist.specs.Netlist.{driver_of, output_of_lem, pins_of_lem};
+ghost use Rattle.netlist.specs.Netlist.{driver_of, output_of, pins_of};
 ghost use Rattle.netlist.specs.Places.{place as place_of};
-ghost use Rattle.board.specs.Layout.{value as valueWordOf};
-ghost use Rattle.board.specs.Board.{netlist_of, nets as netsOf, order_of, Sound};
+ghost use Rattle.board.specs.Layout.{value as value_word_of};
+ghost use Rattle.board.specs.Board.{netlist_of, nets as nets_of, order_of, Sound};
 ghost use Rattle.board.specs.Standing.{Stands};
 ghost use Rattle.editor.specs.Questions.{kind_of, kind_by, pin_words_lem, AreOn, TableOf, start_of};
 
@@ -39,7 +39,7 @@ pub(crate) fn kind_of<S: Store>(store: &S, layout: Layout, signal: u32) -> Optio
 }
 
 pub(crate) fn output_of<S: Store>(store: &S, layout: Layout, signal: u32) -> Option<bool>
-    ensures { MatchOption result (layout.signals ≤ signal) (λ o. (signal < layout.signals) × (o ≡ output_of_lem (netlist_of layout.signals (S.Store.model store.now).image) signal)) }
+    ensures { MatchOption result (layout.signals ≤ signal) (λ o. (signal < layout.signals) × (o ≡ output_of (netlist_of layout.signals (S.Store.model store.now).image) signal)) }
 {
     if signal >= layout.signals {
         return None;
@@ -48,7 +48,7 @@ pub(crate) fn output_of<S: Store>(store: &S, layout: Layout, signal: u32) -> Opt
 }
 
 pub(crate) fn pins_of<S: Store>(store: &S, layout: Layout, signal: u32) -> Option<Pins>
-    ensures { MatchOption result (layout.signals ≤ signal) (λ p. (signal < layout.signals) × AreOn p (pins_of_lem (driver_of (netlist_of layout.signals (S.Store.model store.now).image) signal))) }
+    ensures { MatchOption result (layout.signals ≤ signal) (λ p. (signal < layout.signals) × AreOn p (pins_of (driver_of (netlist_of layout.signals (S.Store.model store.now).image) signal))) }
 {
     if signal >= layout.signals {
         return None;
@@ -126,7 +126,7 @@ fn no_pins() -> Pins
 
 // A latch has one pin, whatever the words say.
 fn one_pin(words: [u32; 4]) -> Pins
-    ensures { AreOn result (slice_index (netsOf words) 0 ∷ []) }
+    ensures { AreOn result (slice_index (nets_of words) 0 ∷ []) }
 {
     Pins {
         count: 1,
@@ -136,7 +136,7 @@ fn one_pin(words: [u32; 4]) -> Pins
 
 // The signals that pins are on, up to the first pin that is on none.
 fn pins_on(words: [u32; 4]) -> Pins
-    ensures { AreOn result (netsOf words) }
+    ensures { AreOn result (nets_of words) }
 {
     let mut nets = [0; 4];
     for (i, word) in words.iter().enumerate() {
@@ -165,7 +165,7 @@ fn pin_words<S: Store>(store: &S, layout: Layout, signal: u32) -> [u32; 4]
 }
 
 fn pins_at<S: Store>(store: &S, layout: Layout, signal: u32) -> Pins
-    ensures { AreOn result (pins_of_lem (driver_of (netlist_of layout.signals (S.Store.model store.now).image) signal)) }
+    ensures { AreOn result (pins_of (driver_of (netlist_of layout.signals (S.Store.model store.now).image) signal)) }
 {
     match kind_at(store, layout, signal) {
         Kind::Absent | Kind::Input => no_pins(),
@@ -176,7 +176,7 @@ fn pins_at<S: Store>(store: &S, layout: Layout, signal: u32) -> Pins
 
 // The value of a signal as a table of as many pins as are on something, if it fits them.
 fn table_at<S: Store>(store: &S, layout: Layout, signal: u32) -> Option<Table>
-    ensures { MatchOption result (IsTable (length (netsOf (pin_words_lem layout.signals (S.Store.model store.now).image signal))) (valueWordOf layout.signals (S.Store.model store.now).image signal) → ⊥) (λ t. (t.bits ≡ valueWordOf layout.signals (S.Store.model store.now).image signal) × (t.pins ≡ length (netsOf (pin_words_lem layout.signals (S.Store.model store.now).image signal)))) }
+    ensures { MatchOption result (IsTable (length (nets_of (pin_words_lem layout.signals (S.Store.model store.now).image signal))) (value_word_of layout.signals (S.Store.model store.now).image signal) → ⊥) (λ t. (t.bits ≡ value_word_of layout.signals (S.Store.model store.now).image signal) × (t.pins ≡ length (nets_of (pin_words_lem layout.signals (S.Store.model store.now).image signal)))) }
 {
     let pins = pins_on(pin_words(store, layout, signal));
     Table::new(pins.count, read(store, layout.value(signal))).ok()

@@ -1,10 +1,10 @@
 -- The board after a change of one cell.
 use Rattle.std.proofs.Common.{◌≡◌, ℕ, ◌+◌, ◌*◌, ◌<◌, ◌≤◌, cond, eqb, List, [], ◌∷◌, length, set, sym, refl, ap, ◌∙◌, subst, ⊎_elim, arith}
 use Rattle.std.proofs.lemmas.Bool.{cases_eq, eq-eqb, ne_eqb, cond-true, cond-false}
-use Rattle.netlist.specs.Netlist.{pins_of_lem}
+use Rattle.netlist.specs.Netlist.{pins_of}
 use Rattle.netlist.specs.Places.{place}
 use Rattle.board.specs.Layout.{kind, output, value, holder, pin}
-use Rattle.board.specs.Board.{nets, driven, driver_at, signal_at_lem, netlist_of, order_of, pin_word, Sound}
+use Rattle.board.specs.Board.{nets, driven, driver_at, signal_at, netlist_of, order_of, pin_word, Sound}
 use Rattle.board.proofs.Listing.{listing-same, listing-set}
 use Rattle.edits.specs.Cells.{Cell, Changed}
 
@@ -54,22 +54,22 @@ module _ (m : ℕ) (ws : List ℕ) (s : ℕ) (cell : Cell) (ws' : List ℕ) (on 
 
   pub changed_netlist : netlist_of m ws' ≡ set (netlist_of m ws) s (record { driver = driven cell.kind cell.value on; output = eqb cell.output 1 })
   changed_netlist =
-      listing-set (signal_at_lem m ws) (signal_at_lem m ws') m s _ below
+      listing-set (signal_at m ws) (signal_at m ws') m s _ below
       (λ i. record { driver = new_driver i; output = eqb (at_s (output m ws') (output m ws) cell.output (h.outputs s below) i) 1 })
       (λ k lt ne. λ i. record { driver = old_driver k lt ne i; output = eqb (off_s k (output m ws' k) cell.output (output m ws k) ne (h.outputs k lt) i) 1 })
 
   pub changed-order : order_of m ws' ≡ order_of m ws
   changed-order = listing-same (holder m ws') (holder m ws) 0 m (λ k lo hi. h.holders k (omega arith))
 
-  pub changed_sound : Sound m ws → pins_of_lem (driven cell.kind cell.value on) ≡ on → Sound m ws'
+  pub changed_sound : Sound m ws → pins_of (driven cell.kind cell.value on) ≡ on → Sound m ws'
   changed_sound sound own = record {
     chained = h.chained;
     spelled = λ x i lt four.
         ⊎_elim
-        (λ same. subst (λ y. pin m ws' (4 * y + i) ≡ pin_word (pins_of_lem (driver_at m ws' y)) i) (sym same)
+        (λ same. subst (λ y. pin m ws' (4 * y + i) ≡ pin_word (pins_of (driver_at m ws' y)) i) (sym same)
         (at_s (λ y. pin m ws' (4 * y + i)) (λ y. pin m ws (4 * y + i)) (cell.pins i) (h.pins s i below four) ∙ words i four
-        ∙ ap (λ xs. pin_word xs i) (sym (ap pins_of_lem new_driver ∙ own))))
-        (λ ne. pin_off x i lt ne four ∙ sound.spelled x i lt four ∙ ap (λ d. pin_word (pins_of_lem d) i) (sym (old_driver x lt ne)))
+        ∙ ap (λ xs. pin_word xs i) (sym (ap pins_of new_driver ∙ own))))
+        (λ ne. pin_off x i lt ne four ∙ sound.spelled x i lt four ∙ ap (λ d. pin_word (pins_of d) i) (sym (old_driver x lt ne)))
         (cases_eq x s);
     seated = λ x lt. h.seats x lt ∙ sound.seated x lt ∙ ap (λ o. place o x) (sym changed-order);
   }

@@ -4,7 +4,7 @@ use Rattle.std.proofs.lemmas.Bool.{cases_eq, cases_lt, eq-eqb, ne_eqb, lt-ltb, l
 use Rattle.std.proofs.lemmas.List.{length-take, length-set, get_or-take}
 use Rattle.netlist.specs.declared.edit.Edit.{Edit}
 use Rattle.netlist.specs.declared.edit.Edit.TheVariants.{Input, Output, Gate, Latch, Delete, Move}
-use Rattle.netlist.specs.Netlist.{Driver, absent, input, gate, latch, driver_of, output_of_lem, pins_of_lem}
+use Rattle.netlist.specs.Netlist.{Driver, absent, input, gate, latch, driver_of, output_of, pins_of}
 use Rattle.netlist.specs.Edits.{asked, repinned, Pinned}
 use Rattle.board.specs.Layout.{kind, value, output, pin}
 use Rattle.board.specs.Board.{driven, driver_at, netlist_of, pin_word}
@@ -45,26 +45,26 @@ set_words (b ∷ on) (suc j) a (suc i) lt =
 
 -- ---- drivers
 
-redriven : (k v : ℕ) (on : List ℕ) → driven k v (pins_of_lem (driven k v on)) ≡ driven k v on
+redriven : (k v : ℕ) (on : List ℕ) → driven k v (pins_of (driven k v on)) ≡ driven k v on
 redriven zero v on = refl
 redriven (suc zero) v on = refl
 redriven (suc (suc zero)) v on = refl
 redriven (suc (suc (suc k))) v on = refl
 
 -- a driver by its words has as many pins as it is told
-own_pins : (k v : ℕ) (on : List ℕ) → pins_of_lem (driven k v (pins_of_lem (driven k v on))) ≡ pins_of_lem (driven k v on)
-own_pins k v on = ap pins_of_lem (redriven k v on)
+own_pins : (k v : ℕ) (on : List ℕ) → pins_of (driven k v (pins_of (driven k v on))) ≡ pins_of (driven k v on)
+own_pins k v on = ap pins_of (redriven k v on)
 
-re_pinned : (k v : ℕ) (on : List ℕ) (i a : ℕ) → Pinned (driven k v on) → i < length (pins_of_lem (driven k v on))
-    → driven k v (set (pins_of_lem (driven k v on)) i a) ≡ repinned (driven k v on) i a
+re_pinned : (k v : ℕ) (on : List ℕ) (i a : ℕ) → Pinned (driven k v on) → i < length (pins_of (driven k v on))
+    → driven k v (set (pins_of (driven k v on)) i a) ≡ repinned (driven k v on) i a
 re_pinned zero v on i a p lt = absurd p
 re_pinned (suc zero) v on i a p lt = absurd p
 re_pinned (suc (suc zero)) v on i a p lt = refl
 re_pinned (suc (suc (suc k))) v on zero a p lt = refl
 re_pinned (suc (suc (suc k))) v on (suc i) a p lt = absurd (omega arith)
 
-re_own : (k v : ℕ) (on : List ℕ) (i a : ℕ) → Pinned (driven k v on) → i < length (pins_of_lem (driven k v on))
-    → pins_of_lem (driven k v (set (pins_of_lem (driven k v on)) i a)) ≡ set (pins_of_lem (driven k v on)) i a
+re_own : (k v : ℕ) (on : List ℕ) (i a : ℕ) → Pinned (driven k v on) → i < length (pins_of (driven k v on))
+    → pins_of (driven k v (set (pins_of (driven k v on)) i a)) ≡ set (pins_of (driven k v on)) i a
 re_own zero v on i a p lt = absurd p
 re_own (suc zero) v on i a p lt = absurd p
 re_own (suc (suc zero)) v on i a p lt = refl
@@ -92,7 +92,7 @@ really_absent (latch v a) h = absurd (h (λ e. let z : ◌≡◌ {A = ℕ} 1 0 =
 -- ---- one lemma for every edit
 
 entered_by : (m : ℕ) (ws : List ℕ) (s : ℕ) (cell : Cell) (ws' : List ℕ) (on : List ℕ) (d : Driver) (out : Bool) (e : Edit) → s < m → Stands m ws → Changed m ws s cell ws'
-    → length on ≤ 4 → ((i : ℕ) → i < 4 → cell.pins i ≡ pin_word on i) → pins_of_lem (driven cell.kind cell.value on) ≡ on → driven cell.kind cell.value on ≡ d
+    → length on ≤ 4 → ((i : ℕ) → i < 4 → cell.pins i ≡ pin_word on i) → pins_of (driven cell.kind cell.value on) ≡ on → driven cell.kind cell.value on ≡ d
     → eqb cell.output 1 ≡ out → Fitting d → asked (netlist_of m ws) e ≡ set (netlist_of m ws) s (record { driver = d; output = out }) → Entered m ws e ws'
 entered_by m ws s cell ws' on d out e below stands h few words own is outs fit asks = record {
   netlist = changed_netlist m ws s cell ws' on below h few words ∙ (λ i. set (netlist_of m ws) s (record { driver = is i; output = outs i })) ∙ sym asks;
@@ -110,22 +110,22 @@ module _ (m : ℕ) (ws : List ℕ) (high : m ≤ 1024) (stands : Stands m ws) wh
   site s lt = record { few = high; chained = stands.sound.chained; below = lt }
 
   free : (s : ℕ) → s < m → driver_of (netlist_of m ws) s ≡ absent → (i : ℕ) → i < 4 → pin m ws (4 * s + i) ≡ 0
-  free s lt gone i four = stands.sound.spelled s i lt four ∙ ap (λ d. pin_word (pins_of_lem d) i) (sym (driver-at m ws s lt) ∙ gone)
+  free s lt gone i four = stands.sound.spelled s i lt four ∙ ap (λ d. pin_word (pins_of d) i) (sym (driver-at m ws s lt) ∙ gone)
 
-  same-output : (s : ℕ) → s < m → eqb (output m ws s) 1 ≡ output_of_lem (netlist_of m ws) s
+  same-output : (s : ℕ) → s < m → eqb (output m ws s) 1 ≡ output_of (netlist_of m ws) s
   same-output s lt = sym (output_at m ws s lt)
 
   pub entered-input : (s : ℕ) (ws' : List ℕ) → Passes m (netlist_of m ws) (Input s) → (Site m ws s → Changed m ws s (as_input (cell_at m ws s)) ws') → Entered m ws (Input s) ws'
   entered-input s ws' p h =
       let lt : s < m = signal-below m (Input s) p.signals in
-      entered_by m ws s (as_input (cell_at m ws s)) ws' [] input (output_of_lem (netlist_of m ws) s) (Input s) lt stands (h (site s lt)) (omega arith)
+      entered_by m ws s (as_input (cell_at m ws s)) ws' [] input (output_of (netlist_of m ws) s) (Input s) lt stands (h (site s lt)) (omega arith)
       (free s lt (really_absent (driver_of (netlist_of m ws) s) p.undriven)) refl refl (same-output s lt) tt refl
 
   pub entered-output : (s v : ℕ) (ws' : List ℕ) → Passes m (netlist_of m ws) (Output s v) → (Site m ws s → Changed m ws s (as_output (cell_at m ws s) v) ws') → Entered m ws (Output s v) ws'
   entered-output s v ws' p h =
       let lt : s < m = signal-below m (Output s v) p.signals in
       let d : driver_of (netlist_of m ws) s ≡ driver_at m ws s = driver-at m ws s lt in
-      entered_by m ws s (as_output (cell_at m ws s) v) ws' (pins_of_lem (driver_at m ws s)) (driver_of (netlist_of m ws) s) (eqb v 1) (Output s v) lt stands (h (site s lt)) (pins_few m ws s)
+      entered_by m ws s (as_output (cell_at m ws s) v) ws' (pins_of (driver_at m ws s)) (driver_of (netlist_of m ws) s) (eqb v 1) (Output s v) lt stands (h (site s lt)) (pins_few m ws s)
       (λ i four. stands.sound.spelled s i lt four) (own_pins (kind m ws s) (value m ws s) _) (redriven (kind m ws s) (value m ws s) _ ∙ sym d) refl
       (subst Fitting (sym d) (stands.fits s lt)) refl
 
@@ -143,7 +143,7 @@ module _ (m : ℕ) (ws : List ℕ) (high : m ≤ 1024) (stands : Stands m ws) wh
         free = free s lt gone;
         nets = λ i less. ⊎_elim (λ l. l) (λ le. absurd (p.signals (inr (net-beyond m k on i four (omega arith) le)))) (cases_lt (get_or on i 0) m);
       } in
-      entered_by m ws s (as_driven (cell_at m ws s) 2 table k on) ws' (take k on) (gate table (take k on)) (output_of_lem (netlist_of m ws) s) (Gate s k on table) lt stands (h w) (omega (arith, long))
+      entered_by m ws s (as_driven (cell_at m ws s) 2 table k on) ws' (take k on) (gate table (take k on)) (output_of (netlist_of m ws) s) (Gate s k on table) lt stands (h w) (omega (arith, long))
       (λ i less. on_words k on (cell_at m ws s).pins i (omega arith) (free s lt gone i less)) refl refl (same-output s lt)
       (omega (arith, long), subst (λ l. table < 2 ^ (2 ^ l)) (sym long) fit) refl
 
@@ -162,13 +162,13 @@ module _ (m : ℕ) (ws : List ℕ) (high : m ≤ 1024) (stands : Stands m ws) wh
         nets = λ i less. let z : i ≡ 0 = omega arith in subst (λ j. get_or on j 0 < m) (sym z) (subst (λ y. y < m) (sym first) net-low);
       } in
       let one : take 1 on ≡ net ∷ [] = ap (take 1) e in
-      entered_by m ws s (as_driven (cell_at m ws s) 3 start 1 on) ws' (net ∷ []) (latch start net) (output_of_lem (netlist_of m ws) s) (Latch s net start) lt stands (h w) (omega arith)
+      entered_by m ws s (as_driven (cell_at m ws s) 3 start 1 on) ws' (net ∷ []) (latch start net) (output_of (netlist_of m ws) s) (Latch s net start) lt stands (h w) (omega arith)
       (λ i less. on_words 1 on (cell_at m ws s).pins i (omega (arith, ap length e)) (free s lt gone i less) ∙ ap (λ xs. pin_word xs i) one) refl refl (same-output s lt) low refl
 
   pub entered-delete : (s : ℕ) (ws' : List ℕ) → Passes m (netlist_of m ws) (Delete s) → (Site m ws s → Changed m ws s (as_absent (cell_at m ws s)) ws') → Entered m ws (Delete s) ws'
   entered-delete s ws' p h =
       let lt : s < m = signal-below m (Delete s) p.signals in
-      entered_by m ws s (as_absent (cell_at m ws s)) ws' [] absent (output_of_lem (netlist_of m ws) s) (Delete s) lt stands (h (site s lt)) (omega arith)
+      entered_by m ws s (as_absent (cell_at m ws s)) ws' [] absent (output_of (netlist_of m ws) s) (Delete s) lt stands (h (site s lt)) (omega arith)
       (λ i four. refl) refl refl (same-output s lt) tt refl
 
   pub entered_move : (s i a : ℕ) (ws' : List ℕ) → Passes m (netlist_of m ws) (Move s i a)
@@ -177,14 +177,14 @@ module _ (m : ℕ) (ws : List ℕ) (high : m ≤ 1024) (stands : Stands m ws) wh
       let lt : s < m = signal-below m (Move s i a) p.signals in
       let net-low : a < m = ⊎_elim (λ l. l) (λ le. absurd (p.signals (inr (inl le)))) (cases_lt a m) in
       let d : driver_of (netlist_of m ws) s ≡ driver_at m ws s = driver-at m ws s lt in
-      let has : i < length (pins_of_lem (driver_at m ws s)) =
-      subst (λ x. i < length (pins_of_lem x)) d (⊎_elim (λ l. l) (λ le. absurd (p.pins le)) (cases_lt i (length (pins_of_lem (driver_of (netlist_of m ws) s))))) in
+      let has : i < length (pins_of (driver_at m ws s)) =
+      subst (λ x. i < length (pins_of x)) d (⊎_elim (λ l. l) (λ le. absurd (p.pins le)) (cases_lt i (length (pins_of (driver_of (netlist_of m ws) s))))) in
       let four : i < 4 = omega (arith, pins_few m ws s) in
       let pinned : Pinned (driver_at m ws s) = subst Pinned d (really_pinned (driver_of (netlist_of m ws) s) p.kinds) in
-      let on = set (pins_of_lem (driver_at m ws s)) i a in
-      entered_by m ws s (as_moved (cell_at m ws s) i a) ws' on (repinned (driver_of (netlist_of m ws) s) i a) (output_of_lem (netlist_of m ws) s) (Move s i a) lt stands (h (site s lt) four net-low)
-      (omega (arith, length-set (pins_of_lem (driver_at m ws s)) i a, pins_few m ws s))
-      (λ j less. ap (λ w. cond (eqb i j) (suc a) w) (stands.sound.spelled s j lt less) ∙ set_words (pins_of_lem (driver_at m ws s)) i a j has)
+      let on = set (pins_of (driver_at m ws s)) i a in
+      entered_by m ws s (as_moved (cell_at m ws s) i a) ws' on (repinned (driver_of (netlist_of m ws) s) i a) (output_of (netlist_of m ws) s) (Move s i a) lt stands (h (site s lt) four net-low)
+      (omega (arith, length-set (pins_of (driver_at m ws s)) i a, pins_few m ws s))
+      (λ j less. ap (λ w. cond (eqb i j) (suc a) w) (stands.sound.spelled s j lt less) ∙ set_words (pins_of (driver_at m ws s)) i a j has)
       (re_own (kind m ws s) (value m ws s) _ i a pinned has)
       (re_pinned (kind m ws s) (value m ws s) _ i a pinned has ∙ ap (λ x. repinned x i a) (sym d)) (same-output s lt)
       (re_fits (driver_of (netlist_of m ws) s) i a (subst Fitting (sym d) (stands.fits s lt))) refl where

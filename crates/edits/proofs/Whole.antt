@@ -9,9 +9,9 @@ use Rattle.netlist.specs.declared.edit.Edit.TheVariants.{Input, Output, Gate, La
 use Rattle.netlist.specs.declared.edit.Refusal.TheVariants.{Looped as LoopAsked}
 use Rattle.netlist.specs.Netlist.{Netlist, driver_of, Feeds, Loop}
 use Rattle.netlist.specs.Places.{place, Arranges, Ordered, OrderedBut, PutsAll}
-use Rattle.netlist.specs.Edits.{Applies, no_batch, no_signal, out_of_range, driven, wrong_kind, no_pin, in_use, looped, asked, puts_of_lem, signal_of_lem}
+use Rattle.netlist.specs.Edits.{Applies, no_batch, no_signal, out_of_range, driven, wrong_kind, no_pin, in_use, looped, asked, puts_of, signal_of}
 use Rattle.netlist.proofs.Loops.{order-excludes-loops}
-use Rattle.board.specs.Board.{signal_at_lem, netlist_of, order_of, board_of}
+use Rattle.board.specs.Board.{signal_at, netlist_of, order_of, board_of}
 use Rattle.board.specs.Standing.{Fitting, Stands, Inside}
 use Rattle.board.proofs.Listing.{length-listing}
 use Rattle.places.specs.declared.put.Put.{Put}
@@ -28,53 +28,53 @@ use Rattle.edits.proofs.Putting.{placed-none}
 -- ---- the puts of an edit
 
 module _ (m : ℕ) (ws : List ℕ) (e : Edit) (ws₁ : List ℕ) (few : m ≤ 1024) (stands : Stands m ws) (p : Passes m (netlist_of m ws) e) (en : Entered m ws e ws₁) where
-  below : signal_of_lem e < m
+  below : signal_of e < m
   below = signal-below m e p.signals
 
-  known : signal_of_lem e < length (netlist_of m ws)
-  known = omega (arith, below, length-listing (signal_at_lem m ws) 0 m)
+  known : signal_of e < length (netlist_of m ws)
+  known = omega (arith, below, length-listing (signal_at m ws) 0 m)
 
-  pub ready : ReadyAll m ws₁ (signal_of_lem e) (puts_of_lem (netlist_of m ws) e)
+  pub ready : ReadyAll m ws₁ (signal_of e) (puts_of (netlist_of m ws) e)
   ready = record {
     few = few;
     sound = en.sound;
     permutes = subst (Arranges m) (sym en.order) stands.permutes;
     gate = below;
     nets = λ a h. puts_below m (netlist_of m ws) e a p.signals h;
-    feeds = λ a h. subst (λ n. Feeds n a (signal_of_lem e)) (sym en.netlist) (puts_feed (netlist_of m ws) e a known p.pins h);
-    others = subst (λ n. OrderedBut (signal_of_lem e) n (order_of m ws₁)) (sym en.netlist)
-        (subst (λ o. OrderedBut (signal_of_lem e) (asked (netlist_of m ws) e) o) (sym en.order) (asked-others (netlist_of m ws) (order_of m ws) e stands.ordered));
+    feeds = λ a h. subst (λ n. Feeds n a (signal_of e)) (sym en.netlist) (puts_feed (netlist_of m ws) e a known p.pins h);
+    others = subst (λ n. OrderedBut (signal_of e) n (order_of m ws₁)) (sym en.netlist)
+        (subst (λ o. OrderedBut (signal_of e) (asked (netlist_of m ws) e) o) (sym en.order) (asked-others (netlist_of m ws) (order_of m ws) e stands.ordered));
   }
 
-  pub all_placed : (ws₂ : List ℕ) (total : ℕ) → PlacedAll m ws₁ (signal_of_lem e) (puts_of_lem (netlist_of m ws) e) ws₂ total → Placing m ws e ws₂ (Placed total)
+  pub all_placed : (ws₂ : List ℕ) (total : ℕ) → PlacedAll m ws₁ (signal_of e) (puts_of (netlist_of m ws) e) ws₂ total → Placing m ws e ws₂ (Placed total)
   all_placed ws₂ total h = (
     record {
       sound = h.sound;
       permutes = h.permutes;
       ordered = subst (λ n. Ordered n (order_of m ws₂)) (sym (h.netlist ∙ en.netlist))
           (asked_ordered (netlist_of m ws) (order_of m ws) (order_of m ws₂) e known stands.ordered
-          (subst (λ n. OrderedBut (signal_of_lem e) n (order_of m ws₂)) en.netlist h.others)
-          (λ x lt. h.stays x (subst (λ o. place o x < place o (signal_of_lem e)) (sym en.order) lt)) h.before);
+          (subst (λ n. OrderedBut (signal_of e) n (order_of m ws₂)) en.netlist h.others)
+          (λ x lt. h.stays x (subst (λ o. place o x < place o (signal_of e)) (sym en.order) lt)) h.before);
       fits = λ x lt. subst Fitting (sym (driver-at m ws₁ x lt) ∙ ap (λ n. driver_of n x) (sym h.netlist) ∙ driver-at m ws₂ x lt) (en.fits x lt);
     },
     h.netlist ∙ en.netlist,
-    subst (λ n. PutsAll n (order_of m ws) (signal_of_lem e) (puts_of_lem (netlist_of m ws) e) (order_of m ws₂) total) en.netlist
-        (subst (λ o. PutsAll (netlist_of m ws₁) o (signal_of_lem e) (puts_of_lem (netlist_of m ws) e) (order_of m ws₂) total) en.order h.puts),
+    subst (λ n. PutsAll n (order_of m ws) (signal_of e) (puts_of (netlist_of m ws) e) (order_of m ws₂) total) en.netlist
+        (subst (λ o. PutsAll (netlist_of m ws₁) o (signal_of e) (puts_of (netlist_of m ws) e) (order_of m ws₂) total) en.order h.puts),
   )
 
 pub placing : (m : ℕ) (ws : List ℕ) (e : Edit) (a₁ a₂ : Meaning) (s : ℕ) (on : List ℕ) (r : Put) → m ≤ 1024 → Stands m ws → Passes m (netlist_of m ws) e
-    → Entered m ws e a₁.image → s ≡ signal_of_lem e → on ≡ puts_of_lem (netlist_of m ws) e → (ReadyAll m a₁.image s on → PutsPins m a₁ s on a₂ r) → Placing m ws e a₂.image r
+    → Entered m ws e a₁.image → s ≡ signal_of e → on ≡ puts_of (netlist_of m ws) e → (ReadyAll m a₁.image s on → PutsPins m a₁ s on a₂ r) → Placing m ws e a₂.image r
 placing m ws e a₁ a₂ s on r few stands p en es eo put =
-    let all : PutsPins m a₁ (signal_of_lem e) (puts_of_lem (netlist_of m ws) e) a₂ r =
-    (let same : PutsPins m a₁ s on a₂ r ≡ PutsPins m a₁ (signal_of_lem e) (puts_of_lem (netlist_of m ws) e) a₂ r = λ i. PutsPins m a₁ (es i) (eo i) a₂ r in
-    let was : ReadyAll m a₁.image (signal_of_lem e) (puts_of_lem (netlist_of m ws) e) ≡ ReadyAll m a₁.image s on = λ i. ReadyAll m a₁.image (sym es i) (sym eo i) in
+    let all : PutsPins m a₁ (signal_of e) (puts_of (netlist_of m ws) e) a₂ r =
+    (let same : PutsPins m a₁ s on a₂ r ≡ PutsPins m a₁ (signal_of e) (puts_of (netlist_of m ws) e) a₂ r = λ i. PutsPins m a₁ (es i) (eo i) a₂ r in
+    let was : ReadyAll m a₁.image (signal_of e) (puts_of (netlist_of m ws) e) ≡ ReadyAll m a₁.image s on = λ i. ReadyAll m a₁.image (sym es i) (sym eo i) in
     subst (λ x. x) same (put (subst (λ x. x) was (ready m ws e a₁.image few stands p en)))) in
     finish r all where
-      finish : (r : Put) → PutsPins m a₁ (signal_of_lem e) (puts_of_lem (netlist_of m ws) e) a₂ r → Placing m ws e a₂.image r
+      finish : (r : Put) → PutsPins m a₁ (signal_of e) (puts_of (netlist_of m ws) e) a₂ r → Placing m ws e a₂.image r
       finish (Placed total) h = all_placed m ws e a₁.image few stands p en a₂.image total h
       finish (Looped path) (a, among, loop) = (a, among, subst (λ n. Loop n (along path)) en.netlist loop)
 
-plain-none : (n : Netlist) (e : Edit) → Plain e → puts_of_lem n e ≡ []
+plain-none : (n : Netlist) (e : Edit) → Plain e → puts_of n e ≡ []
 plain-none n (Input s) h = refl
 plain-none n (Output s v) h = refl
 plain-none n (Gate s k on t) h = absurd h
@@ -85,7 +85,7 @@ plain-none n (Move s i a) h = absurd h
 pub plain_placing : (m : ℕ) (ws : List ℕ) (e : Edit) (ws₁ : List ℕ) → Plain e → m ≤ 1024 → Stands m ws → Passes m (netlist_of m ws) e → Entered m ws e ws₁ → Placing m ws e ws₁ (Placed 0)
 plain_placing m ws e ws₁ plain few stands p en =
     all_placed m ws e ws₁ few stands p en ws₁ 0
-    (subst (λ on. PlacedAll m ws₁ (signal_of_lem e) on ws₁ 0) (sym (plain-none (netlist_of m ws) e plain)) (placed-none m ws₁ (signal_of_lem e) (puts_of_lem (netlist_of m ws) e) (ready m ws e ws₁ few stands p en)))
+    (subst (λ on. PlacedAll m ws₁ (signal_of e) on ws₁ 0) (sym (plain-none (netlist_of m ws) e plain)) (placed-none m ws₁ (signal_of e) (puts_of (netlist_of m ws) e) (ready m ws e ws₁ few stands p en)))
 
 -- ---- refusals
 

@@ -13,7 +13,7 @@ use Rattle.edits.specs.declared.make.Made.TheVariants.{Accepted, Refused, Looped
 use Rattle.places.specs.declared.put.Put.{Put}
 use Rattle.places.specs.declared.put.Put.TheVariants.{Placed, Looped as PutLooped}
 use Rattle.netlist.specs.Netlist.{Netlist, Loop}
-use Rattle.netlist.specs.Edits.{Edits, asked, puts_of_lem, signal_of_lem}
+use Rattle.netlist.specs.Edits.{Edits, asked, puts_of, signal_of}
 use Rattle.board.specs.Board.{board_of, netlist_of, order_of}
 use Rattle.board.specs.Standing.{Stands, Inside}
 
@@ -42,8 +42,8 @@ Early (Err r) = number r < 25
 -- the netlist asked for is in the words, and the pins have their places; or it has a loop
 abbrev pub Placing : ℕ → List ℕ → Edit → List ℕ → Put → Type 0
 Placing m ws e ws' (Placed total) = Stands m ws' × (netlist_of m ws' ≡ asked (netlist_of m ws) e)
-    × PutsAll (asked (netlist_of m ws) e) (order_of m ws) (signal_of_lem e) (puts_of_lem (netlist_of m ws) e) (order_of m ws') total
-Placing m ws e ws' (PutLooped path) = (a : ℕ) × Among a (puts_of_lem (netlist_of m ws) e) × Loop (asked (netlist_of m ws) e) (along path)
+    × PutsAll (asked (netlist_of m ws) e) (order_of m ws) (signal_of e) (puts_of (netlist_of m ws) e) (order_of m ws') total
+Placing m ws e ws' (PutLooped path) = (a : ℕ) × Among a (puts_of (netlist_of m ws) e) × Loop (asked (netlist_of m ws) e) (along path)
 
 -- a refused edit leaves the whole meaning of the store
 abbrev pub Untouched : Meaning → Meaning → Result ℕ Refusal → Type 0

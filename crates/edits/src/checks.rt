@@ -1,8 +1,8 @@
 // The refusals of an edit that are seen before a pin is put, the smallest number first.
 ghost use Rattle.std.specs.Prelude.{◌≡◌, ℕ, ◌<◌, ◌≤◌, List, length, take, Decides, ◌≢◌};
-ghost use Rattle.words.specs.Meaning.{levels as levelsOf};
-ghost use Rattle.netlist.specs.Netlist.{absent, driver_of, output_of_lem, pins_of_lem, Used};
-ghost use Rattle.netlist.specs.Edits.{Pinned, Beyond, named, Unranged, DrivenAlready, WrongKind, PinBeyond, StillUsed, signal_of_lem};
+ghost use Rattle.words.specs.Meaning.{levels as levels_of};
+ghost use Rattle.netlist.specs.Netlist.{absent, driver_of, output_of, pins_of, Used};
+ghost use Rattle.netlist.specs.Edits.{Pinned, Beyond, named, Unranged, DrivenAlready, WrongKind, PinBeyond, StillUsed, signal_of};
 ghost use Rattle.board.specs.Board.{netlist_of, Sound};
 ghost use Rattle.edits.specs.Checks.{Checks};
 
@@ -13,7 +13,7 @@ use table::Table;
 use words::Store;
 
 pub(crate) fn refusal_of<S: Store>(store: &S, layout: Layout, edit: Edit) -> Option<Refusal>
-    ensures { layout.signals ≤ 1024 → Sound layout.signals (S.Store.model store.now).image → Checks layout.signals (levelsOf (S.Store.model store.now)) (netlist_of layout.signals (S.Store.model store.now).image) edit result }
+    ensures { layout.signals ≤ 1024 → Sound layout.signals (S.Store.model store.now).image → Checks layout.signals (levels_of (S.Store.model store.now)) (netlist_of layout.signals (S.Store.model store.now).image) edit result }
 {
     if store.levels() == 0 {
         return Some(Refusal::NoBatch);
@@ -99,7 +99,7 @@ fn unranged(edit: Edit) -> bool
 }
 
 fn driven_already<S: Store>(store: &S, layout: Layout, edit: Edit) -> bool
-    requires { signal_of_lem edit < layout.signals }
+    requires { signal_of edit < layout.signals }
     ensures { Decides result (DrivenAlready (netlist_of layout.signals (S.Store.model store.now).image) edit) }
 {
     match edit {
@@ -120,7 +120,7 @@ fn driven_already<S: Store>(store: &S, layout: Layout, edit: Edit) -> bool
 }
 
 fn wrong_kind<S: Store>(store: &S, layout: Layout, edit: Edit) -> bool
-    requires { signal_of_lem edit < layout.signals }
+    requires { signal_of edit < layout.signals }
     ensures { Decides result (WrongKind (netlist_of layout.signals (S.Store.model store.now).image) edit) }
 {
     match edit {
@@ -135,7 +135,7 @@ fn wrong_kind<S: Store>(store: &S, layout: Layout, edit: Edit) -> bool
 }
 
 fn pin_beyond<S: Store>(store: &S, layout: Layout, edit: Edit) -> bool
-    requires { signal_of_lem edit < layout.signals }
+    requires { signal_of edit < layout.signals }
     ensures { layout.signals ≤ 1024 → Sound layout.signals (S.Store.model store.now).image → Decides result (PinBeyond (netlist_of layout.signals (S.Store.model store.now).image) edit) }
 {
     match edit {
@@ -149,7 +149,7 @@ fn pin_beyond<S: Store>(store: &S, layout: Layout, edit: Edit) -> bool
 }
 
 fn still_used<S: Store>(store: &S, layout: Layout, edit: Edit) -> bool
-    requires { signal_of_lem edit < layout.signals }
+    requires { signal_of edit < layout.signals }
     ensures { Sound layout.signals (S.Store.model store.now).image → Decides result (StillUsed (netlist_of layout.signals (S.Store.model store.now).image) edit) }
 {
     match edit {
@@ -177,7 +177,7 @@ fn has_pins<S: Store>(store: &S, layout: Layout, signal: u32) -> bool
 // There is no such pin where its word is 0.
 fn lacks_pin<S: Store>(store: &S, layout: Layout, signal: u32, pin: u32) -> bool
     requires { signal < layout.signals }
-    ensures { layout.signals ≤ 1024 → Sound layout.signals (S.Store.model store.now).image → Decides result (length (pins_of_lem (driver_of (netlist_of layout.signals (S.Store.model store.now).image) signal)) ≤ pin) }
+    ensures { layout.signals ≤ 1024 → Sound layout.signals (S.Store.model store.now).image → Decides result (length (pins_of (driver_of (netlist_of layout.signals (S.Store.model store.now).image) signal)) ≤ pin) }
 {
     pin > 3 || read(store, layout.pin(pin_number(signal, pin))) == 0
 }
@@ -192,7 +192,7 @@ pub(crate) fn is_used<S: Store>(store: &S, layout: Layout, signal: u32) -> bool
 
 pub(crate) fn is_output<S: Store>(store: &S, layout: Layout, signal: u32) -> bool
     requires { signal < layout.signals }
-    ensures { result ≡ output_of_lem (netlist_of layout.signals (S.Store.model store.now).image) signal }
+    ensures { result ≡ output_of (netlist_of layout.signals (S.Store.model store.now).image) signal }
 {
     read(store, layout.output(signal)) == 1
 }

@@ -1,7 +1,7 @@
 // An edit on a board: its refusals, the change of the netlist, and the places.
 ghost use Rattle.std.specs.Prelude.{◌≡◌, ◌<◌, ◌≤◌, take, replicate};
 ghost use Rattle.netlist.specs.declared.edit.Edit.TheVariants.{Input, Output, Latch, Delete};
-ghost use Rattle.netlist.specs.Edits.{puts_of_lem, signal_of_lem};
+ghost use Rattle.netlist.specs.Edits.{puts_of, signal_of};
 ghost use Rattle.board.specs.Board.{netlist_of};
 ghost use Rattle.board.specs.Standing.{Stands, Inside};
 ghost use Rattle.edits.specs.Checks.{Passes, Plain};
@@ -140,7 +140,7 @@ fn make_plain<S: Store>(store: &mut S, layout: Layout, edit: Edit) -> Result<u32
 }
 
 fn signal_of(edit: Edit) -> u32
-    ensures { result ≡ signal_of_lem edit }
+    ensures { result ≡ signal_of edit }
 {
     match edit {
         Edit::Input { signal } => signal,
@@ -167,7 +167,7 @@ fn signal_of(edit: Edit) -> u32
 
 // A latch's pin moves no place.
 fn puts_of<S: Store>(store: &S, layout: Layout, edit: Edit) -> Nets
-    ensures { signal_of_lem edit < layout.signals → take result.count result.nets ≡ puts_of_lem (netlist_of layout.signals (S.Store.model store.now).image) edit }
+    ensures { signal_of edit < layout.signals → take result.count result.nets ≡ puts_of (netlist_of layout.signals (S.Store.model store.now).image) edit }
 {
     match edit {
         Edit::Gate {

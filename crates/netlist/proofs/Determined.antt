@@ -6,7 +6,7 @@ use Rattle.netlist.specs.declared.edit.Refusal.TheVariants.{NoEditor, NoBatch, B
 use Rattle.netlist.specs.Refusals.{number}
 use Rattle.netlist.specs.Netlist.{Netlist}
 use Rattle.netlist.specs.Places.{Order, place, those, segment, Moves, Puts, PutsAll}
-use Rattle.netlist.specs.Edits.{Board, asked, puts_of_lem, signal_of_lem}
+use Rattle.netlist.specs.Edits.{Board, asked, puts_of, signal_of}
 use Rattle.netlist.specs.Laws.{EditsDetermined}
 
 -- ---- places
@@ -54,10 +54,10 @@ all_determined n s (a ∷ nets) o p o₁ o₂ c₁ c₂ e (m₁, k₁, t₁, put
 -- ---- replies
 
 -- the refusal that has a number
-abbrev refusal_of_lem : ℕ → Refusal
-refusal_of_lem k = cond (eqb k 1) NoEditor (cond (eqb k 10) NoBatch (cond (eqb k 11) BatchOpen (cond (eqb k 12) NoSuchSignal (cond (eqb k 13) OutOfRange (cond (eqb k 14) Driven (cond (eqb k 15) NotDriven (cond (eqb k 16) NoSuchPin (cond (eqb k 19) InUse (cond (eqb k 20) NoLevelForMark (cond (eqb k 21) NoMark (cond (eqb k 22) MarkOpen (cond (eqb k 24) AbsentInUse (Looped)))))))))))))
+abbrev refusal_of : ℕ → Refusal
+refusal_of k = cond (eqb k 1) NoEditor (cond (eqb k 10) NoBatch (cond (eqb k 11) BatchOpen (cond (eqb k 12) NoSuchSignal (cond (eqb k 13) OutOfRange (cond (eqb k 14) Driven (cond (eqb k 15) NotDriven (cond (eqb k 16) NoSuchPin (cond (eqb k 19) InUse (cond (eqb k 20) NoLevelForMark (cond (eqb k 21) NoMark (cond (eqb k 22) MarkOpen (cond (eqb k 24) AbsentInUse (Looped)))))))))))))
 
-refusal-of : (r : Refusal) → refusal_of_lem (number r) ≡ r
+refusal-of : (r : Refusal) → refusal_of (number r) ≡ r
 refusal-of NoEditor = refl
 refusal-of NoBatch = refl
 refusal-of BatchOpen = refl
@@ -74,14 +74,14 @@ refusal-of AbsentInUse = refl
 refusal-of Looped = refl
 
 same-refusal : (r t : Refusal) → number r ≡ number t → r ≡ t
-same-refusal r t e = sym (refusal-of r) ∙ ap refusal_of_lem e ∙ refusal-of t
+same-refusal r t e = sym (refusal-of r) ∙ ap refusal_of e ∙ refusal-of t
 
 same_board : {b c : Board} → b.netlist ≡ c.netlist → b.order ≡ c.order → b ≡ c
 same_board p q = λ i. record { netlist = p i; order = q i }
 
 pub edits_determined : EditsDetermined
 edits_determined m levels b e b₁ b₂ (Ok c₁) (Ok c₂) h g =
-    let places = all_determined (asked b.netlist e) (signal_of_lem e) (puts_of_lem b.netlist e) b.order b.order b₁.order b₂.order c₁ c₂ refl h.2 g.2 in
+    let places = all_determined (asked b.netlist e) (signal_of e) (puts_of b.netlist e) b.order b.order b₁.order b₂.order c₁ c₂ refl h.2 g.2 in
     (same_board (h.1 ∙ sym g.1) places.0, ap Ok places.1)
 edits_determined m levels b e b₁ b₂ (Ok c₁) (Err t) h g = absurd (h.0 (number t) g.0)
 edits_determined m levels b e b₁ b₂ (Err r) (Ok c₂) h g = absurd (g.0 (number r) h.0)

@@ -5,7 +5,7 @@ use Rattle.netlist.specs.declared.edit.Edit.{Edit}
 use Rattle.netlist.specs.declared.edit.Edit.TheVariants.{Input, Output, Gate, Latch, Delete, Move}
 use Rattle.netlist.specs.declared.edit.Refusal.{Refusal}
 use Rattle.netlist.specs.Refusals.{number}
-use Rattle.netlist.specs.Netlist.{Netlist, Driver, absent, input, gate, latch, driver_of, output_of_lem, pins_of_lem, Used, Loop, empty_netlist}
+use Rattle.netlist.specs.Netlist.{Netlist, Driver, absent, input, gate, latch, driver_of, output_of, pins_of, Used, Loop, empty_netlist}
 use Rattle.netlist.specs.Places.{Order, PutsAll, first_order}
 
 pub record Board : Type 0 where
@@ -18,7 +18,7 @@ empty_board m = record { netlist = empty_netlist m; order = first_order m }
 -- ---- what an edit asks for
 
 abbrev pub drive : Netlist → ℕ → Driver → Netlist
-drive n s d = slice_set n s (record { driver = d; output = output_of_lem n s })
+drive n s d = slice_set n s (record { driver = d; output = output_of n s })
 
 abbrev pub mark : Netlist → ℕ → ℕ → Netlist
 mark n s v = slice_set n s (record { driver = driver_of n s; output = (v == 1) })
@@ -47,13 +47,13 @@ placed (gate table pins) a = a ∷ []
 placed (latch start pin) a = []
 
 -- the signals that an edit puts pins on, in turn
-abbrev pub puts_of_lem : Netlist → Edit → List ℕ
-puts_of_lem n (Input s) = []
-puts_of_lem n (Output s v) = []
-puts_of_lem n (Gate s k nets table) = take k nets
-puts_of_lem n (Latch s net start) = []
-puts_of_lem n (Delete s) = []
-puts_of_lem n (Move s i a) = placed (driver_of n s) a
+abbrev pub puts_of : Netlist → Edit → List ℕ
+puts_of n (Input s) = []
+puts_of n (Output s v) = []
+puts_of n (Gate s k nets table) = take k nets
+puts_of n (Latch s net start) = []
+puts_of n (Delete s) = []
+puts_of n (Move s i a) = placed (driver_of n s) a
 
 -- ---- when it is refused
 
@@ -108,14 +108,14 @@ PinBeyond n (Output s v) = ⊥
 PinBeyond n (Gate s k nets table) = ⊥
 PinBeyond n (Latch s net start) = ⊥
 PinBeyond n (Delete s) = ⊥
-PinBeyond n (Move s i a) = length (pins_of_lem (driver_of n s)) ≤ i
+PinBeyond n (Move s i a) = length (pins_of (driver_of n s)) ≤ i
 
 abbrev pub StillUsed : Netlist → Edit → Type 0
 StillUsed n (Input s) = ⊥
 StillUsed n (Output s v) = ⊥
 StillUsed n (Gate s k nets table) = ⊥
 StillUsed n (Latch s net start) = ⊥
-StillUsed n (Delete s) = Used n s ⊎ (output_of_lem n s ≡ true)
+StillUsed n (Delete s) = Used n s ⊎ (output_of n s ≡ true)
 StillUsed n (Move s i a) = ⊥
 
 -- the numbers that apply to an edit on a netlist of m signals, with so many levels open; only one that puts a pin can ask for a loop
@@ -127,23 +127,23 @@ pub data Applies (m levels : ℕ) (n : Netlist) (e : Edit) : ℕ → Type 0 wher
   wrong_kind : WrongKind n e → Applies m levels n e 15
   no_pin : PinBeyond n e → Applies m levels n e 16
   in_use : StillUsed n e → Applies m levels n e 19
-  looped : (a : ℕ) → Among a (puts_of_lem n e) → (xs : List ℕ) → Loop (asked n e) xs → Applies m levels n e 25
+  looped : (a : ℕ) → Among a (puts_of n e) → (xs : List ℕ) → Loop (asked n e) xs → Applies m levels n e 25
 
 -- ---- what it leaves
 
-abbrev pub signal_of_lem : Edit → ℕ
-signal_of_lem (Input s) = s
-signal_of_lem (Output s v) = s
-signal_of_lem (Gate s k nets table) = s
-signal_of_lem (Latch s net start) = s
-signal_of_lem (Delete s) = s
-signal_of_lem (Move s i a) = s
+abbrev pub signal_of : Edit → ℕ
+signal_of (Input s) = s
+signal_of (Output s v) = s
+signal_of (Gate s k nets table) = s
+signal_of (Latch s net start) = s
+signal_of (Delete s) = s
+signal_of (Move s i a) = s
 
 -- The reply to an edit: the sum of the counts of its puts, with the netlist asked for and the order that the puts give;
 -- or the smallest number that applies, with nothing changed.
 abbrev pub Edits : ℕ → ℕ → Board → Edit → Board → Result ℕ Refusal → Type 0
 Edits m levels b e b' (Ok count) =
     ((k : ℕ) → Applies m levels b.netlist e k → ⊥) × (b'.netlist ≡ asked b.netlist e)
-    × PutsAll (asked b.netlist e) b.order (signal_of_lem e) (puts_of_lem b.netlist e) b'.order count
+    × PutsAll (asked b.netlist e) b.order (signal_of e) (puts_of b.netlist e) b'.order count
 Edits m levels b e b' (Err r) =
     Applies m levels b.netlist e (number r) × ((k : ℕ) → k < number r → Applies m levels b.netlist e k → ⊥) × (b' ≡ b)

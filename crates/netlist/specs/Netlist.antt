@@ -22,15 +22,15 @@ unused = record { driver = absent; output = false }
 abbrev pub driver_of : Netlist → ℕ → Driver
 driver_of n s = (slice_index_or n s unused).driver
 
-abbrev pub output_of_lem : Netlist → ℕ → Bool
-output_of_lem n s = (slice_index_or n s unused).output
+abbrev pub output_of : Netlist → ℕ → Bool
+output_of n s = (slice_index_or n s unused).output
 
 -- the signals that a driver's pins are on
-abbrev pub pins_of_lem : Driver → List ℕ
-pins_of_lem absent = []
-pins_of_lem input = []
-pins_of_lem (gate table pins) = pins
-pins_of_lem (latch start pin) = pin ∷ []
+abbrev pub pins_of : Driver → List ℕ
+pins_of absent = []
+pins_of input = []
+pins_of (gate table pins) = pins
+pins_of (latch start pin) = pin ∷ []
 
 -- those that feed what it drives: a latch's pin feeds nothing
 abbrev pub feeders : Driver → List ℕ
@@ -45,7 +45,7 @@ Feeds n a s = Among a (feeders (driver_of n s))
 
 -- some pin is on a
 abbrev pub Used : Netlist → ℕ → Type 0
-Used n a = (s : ℕ) × Among a (pins_of_lem (driver_of n s))
+Used n a = (s : ℕ) × Among a (pins_of (driver_of n s))
 
 -- b is reached from a: it is a, or something that is reached from a feeds it
 pub data Leads (n : Netlist) (a : ℕ) : ℕ → Type 0 where
@@ -69,7 +69,7 @@ Loop n (x ∷ xs) = Different (x ∷ xs) × Feeding n (x ∷ xs) x
 
 -- no absent signal is an output or has a pin on it
 abbrev pub Whole : Netlist → Type 0
-Whole n = (s : ℕ) → driver_of n s ≡ absent → (output_of_lem n s ≢ true) × (Used n s → ⊥)
+Whole n = (s : ℕ) → driver_of n s ≡ absent → (output_of n s ≢ true) × (Used n s → ⊥)
 
 -- every signal absent
 abbrev pub empty_netlist : ℕ → Netlist

@@ -2,11 +2,11 @@
 use Rattle.std.proofs.Common.{◌≡◌, ℕ, zero, suc, ◌+◌, ◌*◌, ◌<◌, ◌≤◌, eqb, List, [], ◌∷◌, length, get_or, set, sym, refl, ap, ◌∙◌, subst, ⊎_elim, arith}
 use Rattle.std.proofs.lemmas.List.{length-set, get_or-set_same, get_or-set_other, ext_get_or}
 use Rattle.std.proofs.lemmas.Bool.{cases_eq}
-use Rattle.netlist.specs.Netlist.{pins_of_lem}
+use Rattle.netlist.specs.Netlist.{pins_of}
 use Rattle.netlist.specs.Places.{Order, place}
 use Rattle.board.specs.Layout.{word, needed, kind, output, value, seat, holder, first, pin, next, back}
 use Rattle.board.specs.Chain.{Least, Greatest, Chained}
-use Rattle.board.specs.Board.{listing, nets, driven, driver_at, signal_at_lem, netlist_of, order_of, pin_word, Sound}
+use Rattle.board.specs.Board.{listing, nets, driven, driver_at, signal_at, netlist_of, order_of, pin_word, Sound}
 use Rattle.places.specs.Refill.{Reordered}
 
 -- ---- lists of what a function gives
@@ -91,7 +91,7 @@ module _ (m : ℕ) (ws ws' : List ℕ) (low : (at : ℕ) → at < 3 * m → word
 
   pub netlist_same : netlist_of m ws' ≡ netlist_of m ws
   netlist_same =
-      listing-same (signal_at_lem m ws') (signal_at_lem m ws) 0 m
+      listing-same (signal_at m ws') (signal_at m ws) 0 m
       (λ s lt.
       let mark : output m ws' s ≡ output m ws s = low (m + s) (omega arith) in
       λ i. record { driver = driver_same s (omega arith) i; output = eqb (mark i) 1 })
@@ -121,6 +121,6 @@ module _ (m : ℕ) (ws ws' : List ℕ) (low : (at : ℕ) → at < 3 * m → word
   sound_same size h seated =
       record {
         chained = chained_same size h.chained;
-        spelled = λ s i lt less. pin-same (4 * s + i) ∙ h.spelled s i lt less ∙ sym (ap (λ d. pin_word (pins_of_lem d) i) (driver_same s lt));
+        spelled = λ s i lt less. pin-same (4 * s + i) ∙ h.spelled s i lt less ∙ sym (ap (λ d. pin_word (pins_of d) i) (driver_same s lt));
         seated = seated;
       }

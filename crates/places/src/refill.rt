@@ -3,7 +3,7 @@ ghost use Rattle.std.specs.Prelude.{◌≡◌, suc, ◌+◌, ◌-◌, ◌<◌, �
 ghost use Rattle.netlist.specs.Places.{Arranges};
 ghost use Rattle.board.specs.Layout.{needed};
 ghost use Rattle.board.specs.Board.{order_of};
-ghost use Rattle.places.specs.Refill.{Range, Reordered, Walked, Renumbered, held as heldBack, flagged, filled};
+ghost use Rattle.places.specs.Refill.{Range, Reordered, Walked, Renumbered, held as held_back, flagged, filled};
 
 use crate::held::Held;
 use board::{Layout, read, write};
@@ -37,10 +37,10 @@ fn fill_others<S: Store>(
     search: &Search<'_>,
     held: &mut Held,
 ) -> u32
-    requires none { heldBack held.old ≡ [] }
+    requires none { held_back held.old ≡ [] }
     requires count { held.old.count ≡ 0 }
-    ensures walked { Range layout.signals (S.Store.model store.old).image low high → Walked (flagged search.now.flags.now) layout.signals (S.Store.model store.old).image low (suc high - low) (S.Store.model store.new).image result (heldBack held.new) }
-    ensures long { length (heldBack held.new) ≡ held.new.count }
+    ensures walked { Range layout.signals (S.Store.model store.old).image low high → Walked (flagged search.now.flags.now) layout.signals (S.Store.model store.old).image low (suc high - low) (S.Store.model store.new).image result (held_back held.new) }
+    ensures long { length (held_back held.new) ≡ held.new.count }
     ensures few { held.new.count ≤ 1024 }
     ensures room { result + held.new.count < 4294967296 }
     ensures levels { (S.Store.model store.new).saved ≡ (S.Store.model store.old).saved }
@@ -62,10 +62,10 @@ fn fill_others<S: Store>(
 
 // Writes the signals that were held back, from a place on.
 fn fill_held<S: Store>(store: &mut S, layout: Layout, from: u32, held: &Held)
-    requires long { length (heldBack held.now) ≡ held.now.count }
+    requires long { length (held_back held.now) ≡ held.now.count }
     requires few { held.now.count ≤ 1024 }
     requires room { from + held.now.count < 4294967296 }
-    ensures writes { needed layout.signals ≤ length (S.Store.model store.old).image → from + held.now.count ≤ layout.signals → Reordered layout.signals (S.Store.model store.old).image (take from (order_of layout.signals (S.Store.model store.old).image) ++ (heldBack held.now ++ drop (from + held.now.count) (order_of layout.signals (S.Store.model store.old).image))) (S.Store.model store.new).image }
+    ensures writes { needed layout.signals ≤ length (S.Store.model store.old).image → from + held.now.count ≤ layout.signals → Reordered layout.signals (S.Store.model store.old).image (take from (order_of layout.signals (S.Store.model store.old).image) ++ (held_back held.now ++ drop (from + held.now.count) (order_of layout.signals (S.Store.model store.old).image))) (S.Store.model store.new).image }
     ensures levels { (S.Store.model store.new).saved ≡ (S.Store.model store.old).saved }
     ensures limit { (S.Store.model store.new).limit ≡ (S.Store.model store.old).limit }
     ensures behind { S.Store.lent store.new ≡ S.Store.lent store.old }

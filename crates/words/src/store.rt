@@ -1,6 +1,6 @@
 // What every store of words owes, said over its meaning, so that code above is proved once for all of them.
 ghost use Rattle.std.specs.Prelude.{◌≡◌};
-ghost use Rattle.words.specs.Meaning.{Meaning, Lent, Tells, Sets, Opens, Keeps, Drops, size as size_of, levels as levelsOf};
+ghost use Rattle.words.specs.Meaning.{Meaning, Lent, Tells, Sets, Opens, Keeps, Drops, size as size_of, levels as levels_of};
 ghost use Rattle.words.specs.Refusals.{number as number_of};
 
 #[derive(Clone, Copy, PartialEq, Eq, Debug)]
@@ -45,7 +45,7 @@ pub trait Store {
 
     // how many levels are open
     fn levels(&self) -> usize
-        ensures { result ≡ levelsOf (model self.now) };
+        ensures { result ≡ levels_of (model self.now) };
 
     fn get(&self, at: usize) -> Option<u32>
         ensures { Tells (model self.now) at result };
