@@ -4,6 +4,7 @@
 usage: tools/respell.py     at the top of the repository, once, after the kit's own script has turned the files
 
 A dash stays in a lemma where it joins two names, as in the kit's length-drop; a definition that would have the name of a function of its own crate gets _lem.
+first_of, which the kit's script makes of firstOf, is the name of a tactic, and so gets another.
 Names of functions, strings, inputs and outputs stay. A word behind a dot is turned only where it is a field of a record below.
 """
 
@@ -197,6 +198,7 @@ first-used first_used
 firstFault first_fault_lem
 firstFault-after first_fault-after
 firstOrder first_order
+first_of first_wrong
 fit-cons fit_cons
 fits-is fits_is
 fitting-last fitting_last

@@ -7,7 +7,7 @@ use Rattle.std.proofs.lemmas.Bool.{cond_both, and_parts, and_from, not-true, not
 use Rattle.text.specs.declared.faults.TextFault.TheVariants.{TooLong}
 use Rattle.text.specs.Rules.{Rules, separates, upto, marked, every, allowed, word_byte}
 use Rattle.text.specs.Words.{Part, part, onto, parts, is_word_lem, words, fits}
-use Rattle.text.specs.Lines.{shown, first_of, verdict, judged, lines, begins, Item, faulty, item, items, rest}
+use Rattle.text.specs.Lines.{shown, first_wrong, verdict, judged, lines, begins, Item, faulty, item, items, rest}
 use Rattle.text.specs.Standing.{newlines, Stands, AllStand, WordsStand}
 use Rattle.text.proofs.Cuts.{shown_is}
 
@@ -118,7 +118,7 @@ module _ (k : Rules) (text : List ℕ) (n : ℕ) where
   stand_words [] more h m = m
   stand_words (w ∷ ws) more h m = (h, m)
 
-  stand_judged : (x y : Bool) (ws : List Part) (more : List Item) → every (λ p. fits p.bytes) ws ≡ y → AllByRecursion (Placed text n) ws → (x ≡ true → AllByRecursion Clean ws) → AllStand text more → AllStand text (item n (verdict (first_of x y) ws) ++ more)
+  stand_judged : (x y : Bool) (ws : List Part) (more : List Item) → every (λ p. fits p.bytes) ws ≡ y → AllByRecursion (Placed text n) ws → (x ≡ true → AllByRecursion Clean ws) → AllStand text more → AllStand text (item n (verdict (first_wrong x y) ws) ++ more)
   stand_judged false y ws more e h c m = m
   stand_judged true false ws more e h c m = m
   stand_judged true true ws more e h c m = stand_words ws more (standing ws h (c refl) e) m

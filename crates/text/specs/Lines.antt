@@ -16,10 +16,10 @@ shown [] = []
 shown (b ∷ bs) = cond (b == 35) [] (b ∷ shown bs)
 
 -- what is wrong with a line: a wrong byte anywhere in it comes before a wrong word
-abbrev pub first_of : Bool → Bool → Option TextFault
-first_of false t = Some WrongByte
-first_of true false = Some WrongWord
-first_of true true = None
+abbrev pub first_wrong : Bool → Bool → Option TextFault
+first_wrong false t = Some WrongByte
+first_wrong true false = Some WrongWord
+first_wrong true true = None
 
 abbrev pub verdict : Option TextFault → List Part → Result (List Part) TextFault
 verdict None ws = Ok ws
@@ -27,7 +27,7 @@ verdict (Some f) ws = Err f
 
 -- the words of line n, which begins at `at`, or what is wrong with it
 abbrev pub judged : Rules → ℕ → ℕ → List ℕ → Result (List Part) TextFault
-judged k n at bs = verdict (first_of (every (allowed k) (shown bs)) (every (λ p. fits p.bytes) (words k n at (shown bs)))) (words k n at (shown bs))
+judged k n at bs = verdict (first_wrong (every (allowed k) (shown bs)) (every (λ p. fits p.bytes) (words k n at (shown bs)))) (words k n at (shown bs))
 
 -- the line is right and holds words
 abbrev pub Wordy : Result (List Part) TextFault → Type 0

@@ -2,7 +2,7 @@
 ghost use Rattle.std.specs.Prelude.{◌≡◌, ℕ, ◌+◌, ◌^◌, ◌<◌, ◌≤◌, true, [], ◌∷◌, ◌++◌, map, length, filter, MatchResult, slice_index};
 ghost use Rattle.text.specs.Rules.{Rules, word_byte, allowed, upto, marked, every};
 ghost use Rattle.text.specs.Words.{spelled, is_word_lem, words, fits, serves};
-ghost use Rattle.text.specs.Lines.{shown, first_of, judged, Found};
+ghost use Rattle.text.specs.Lines.{shown, first_wrong, judged, Found};
 
 use crate::faults::{LineFault, ReadFault, TextFault};
 use crate::kinds::Text;
@@ -159,7 +159,7 @@ fn without_comment(bytes: &[u8]) -> &[u8]
 
 // A wrong byte anywhere in a line comes before a wrong word.
 fn first_fault(bytes_serve: bool, words_serve: bool) -> Option<TextFault>
-    ensures { result ≡ first_of bytes_serve words_serve }
+    ensures { result ≡ first_wrong bytes_serve words_serve }
 {
     if !bytes_serve {
         return Some(TextFault::WrongByte);
