@@ -27,6 +27,14 @@ pub enum Command {
     Show,
 }
 
+// Whether a call is handed the flags.
+pub fn takes_flags(call: Call) -> bool {
+    match call {
+        Call::Edit(Edit::Gate { .. }) | Call::Edit(Edit::Move { .. }) => true,
+        _ => false,
+    }
+}
+
 // The most numbers that a command has.
 const NUMBERS_MOST: usize = 7;
 

@@ -2,15 +2,14 @@
 #![tactic(auto)]
 
 mod command;
-mod failure;
+mod desk;
 mod lines;
-mod play;
 mod reply;
 mod session;
 mod show;
 
+use anyhow::anyhow;
 use command::Shape;
-use failure::Failure;
 use lines::Lines;
 use session::{first_editor, on_log, on_snapshot};
 use std::env;
@@ -37,11 +36,11 @@ fn asked(rt: &HostRuntime) -> anyhow::Result<Bottom> {
     let mut arguments = env::args(rt)?;
     let _ = arguments.next();
     let Some(name) = arguments.next() else {
-        return Err(USAGE.into());
+        return Err(anyhow!(USAGE));
     };
     match (bottom_named(name.as_str()), arguments.next()) {
         (Some(bottom), None) => Ok(bottom),
-        _ => Err(USAGE.into()),
+        _ => Err(anyhow!(USAGE)),
     }
 }
 
@@ -51,16 +50,16 @@ fn play_one<R: BufRead>(
     bottom: Bottom,
     shape: Shape,
     lines: &mut Lines<R>,
-) -> Result<Option<Shape>, Failure> {
+) -> anyhow::Result<Option<Shape>> {
     match bottom {
         Bottom::Log => on_log(rt, shape, lines),
         Bottom::Snapshot => on_snapshot(rt, shape, lines),
     }
 }
 
-fn run(rt: &HostRuntime) -> Result<(), Failure> {
+fn run(rt: &HostRuntime) -> anyhow::Result<()> {
     let bottom = asked(rt)?;
-    let mut lines = Lines::new(BufReader::new(rt.stdin()));
+    let mut lines = Lines::new(BufReader::new(rt.alloc(), rt.stdin())?);
     let mut next = first_editor(rt, &mut lines)?;
     for _ in 0..u64::MAX {
         match next {
@@ -71,6 +70,6 @@ fn run(rt: &HostRuntime) -> Result<(), Failure> {
     Ok(())
 }
 
-fn main(rt: HostRuntime) -> Result<(), Failure> {
+fn main(rt: HostRuntime) -> anyhow::Result<()> {
     run(&rt)
 }

@@ -1,11 +1,10 @@
 // The lines that go to one editor, from the one that makes it to the next one that makes another.
-use crate::command::{Call, Command, Shape, parse};
-use crate::failure::Failure;
+use crate::command::{Call, Command, Shape, parse, takes_flags};
+use crate::desk::Desk;
 use crate::lines::Lines;
-use crate::play::{Played, close, play, takes_flags};
 use crate::reply::{print_bad, print_flags, print_reply};
 use crate::show::show;
-use editor::{Editor, Ticket};
+use editor::Editor;
 use netlist::Refusal;
 use std::io::BufRead;
 use words::{InverseLog, Snapshot, Store};
@@ -43,7 +42,7 @@ pub fn on_log<R: BufRead>(
     rt: &HostRuntime,
     shape: Shape,
     lines: &mut Lines<R>,
-) -> Result<Option<Shape>, Failure> {
+) -> anyhow::Result<Option<Shape>> {
     let size = words_of(shape);
     let limit = shape.limit as usize;
     let mut memory = memory(rt, size, 3 * limit + 2)?;
@@ -59,7 +58,7 @@ pub fn on_snapshot<R: BufRead>(
     rt: &HostRuntime,
     shape: Shape,
     lines: &mut Lines<R>,
-) -> Result<Option<Shape>, Failure> {
+) -> anyhow::Result<Option<Shape>> {
     let size = words_of(shape);
     let limit = shape.limit as usize;
     let mut memory = memory(rt, size, limit + 1)?;
@@ -71,17 +70,28 @@ pub fn on_snapshot<R: BufRead>(
     )
 }
 
-// Makes an editor over a store, says how its test went, and plays the lines for it.
+// Makes an editor over a store, says how its test went, and plays the lines for it. A batch that is still open then is dropped.
 fn play_on<S: Store + Drop, R: BufRead>(
     rt: &HostRuntime,
     store: S,
     signals: u32,
     lines: &mut Lines<R>,
-) -> Result<Option<Shape>, Failure> {
+) -> anyhow::Result<Option<Shape>> {
     let test = Editor::test(&store, signals);
-    let mut editor = Editor::new(store, signals);
-    print_made(rt, &editor, test)?;
-    play_lines(rt, &mut editor, lines)
+    let mut desk = Desk::new(store, signals);
+    let next = play_made(rt, &mut desk, test, lines);
+    desk.close();
+    next
+}
+
+fn play_made<S: Store, R: BufRead>(
+    rt: &HostRuntime,
+    desk: &mut Desk<S>,
+    test: Result<(), Refusal>,
+    lines: &mut Lines<R>,
+) -> anyhow::Result<Option<Shape>> {
+    print_made(rt, desk.editor(), test)?;
+    play_lines(rt, desk, lines)
 }
 
 // Memory of so many parts for a store of so many words.
@@ -90,44 +100,27 @@ fn memory(rt: &HostRuntime, size: usize, parts: usize) -> anyhow::Result<Vec<u32
 }
 
 // What follows a line.
+#[derive(Clone, Copy)]
 enum Next {
     Line,
     Editor(Shape),
     End,
-    Failed(anyhow::Error),
 }
 
-// What is at hand after a line.
-struct Turn {
-    held: Option<Ticket>,
-    next: Next,
-}
-
-// Plays the lines for an editor. Gives the shape of the next one, if the input asks for it. A batch that is still open is dropped.
+// Plays the lines for an editor. Gives the shape of the next one, if the input asks for it.
 fn play_lines<S: Store, R: BufRead>(
     rt: &HostRuntime,
-    editor: &mut Editor<S>,
+    desk: &mut Desk<S>,
     lines: &mut Lines<R>,
-) -> Result<Option<Shape>, Failure> {
+) -> anyhow::Result<Option<Shape>> {
     let mut flags = clean_flags();
-    let mut held = None;
     for _ in 0..u64::MAX {
-        let Turn { held: left, next } = play_line(rt, editor, held, lines, &mut flags)?;
-        held = left;
-        match next {
+        match play_line(rt, desk, lines, &mut flags)? {
             Next::Line => {}
-            Next::Editor(shape) => {
-                close(editor, held)?;
-                return Ok(Some(shape));
-            }
+            Next::Editor(shape) => return Ok(Some(shape)),
             Next::End => break,
-            Next::Failed(error) => {
-                close(editor, held)?;
-                return Err(Failure::Error(error));
-            }
         }
     }
-    close(editor, held)?;
     Ok(None)
 }
 
@@ -154,73 +147,43 @@ fn stale_flags() -> [u8; 1024] {
 // Reads one line and plays it.
 fn play_line<S: Store, R: BufRead>(
     rt: &HostRuntime,
-    editor: &mut Editor<S>,
-    held: Option<Ticket>,
+    desk: &mut Desk<S>,
     lines: &mut Lines<R>,
     flags: &mut [u8; 1024],
-) -> Result<Turn, Failure> {
-    match lines.next_line(rt.alloc()) {
-        Ok(Some(line)) => answer(rt, editor, held, line.as_slice(), lines.number(), flags),
-        Ok(None) => Ok(Turn {
-            held,
-            next: Next::End,
-        }),
-        Err(error) => Ok(Turn {
-            held,
-            next: Next::Failed(error),
-        }),
+) -> anyhow::Result<Next> {
+    match lines.next_line(rt.alloc())? {
+        Some(line) => answer(rt, desk, line.as_slice(), lines.number(), flags),
+        None => Ok(Next::End),
     }
 }
 
 fn answer<S: Store>(
     rt: &HostRuntime,
-    editor: &mut Editor<S>,
-    held: Option<Ticket>,
+    desk: &mut Desk<S>,
     line: &[u8],
     number: u64,
     flags: &mut [u8; 1024],
-) -> Result<Turn, Failure> {
+) -> anyhow::Result<Next> {
     match parse(line) {
-        Some(Command::Call(call)) => call_editor(rt, editor, held, call, flags),
-        Some(Command::Editor(shape)) => Ok(Turn {
-            held,
-            next: Next::Editor(shape),
-        }),
-        Some(Command::Show) => Ok(Turn {
-            held,
-            next: after(show(rt, editor)),
-        }),
-        None => Ok(Turn {
-            held,
-            next: after(print_bad(rt, number)),
-        }),
+        Some(Command::Call(call)) => call_editor(rt, desk, call, flags)?,
+        Some(Command::Editor(shape)) => return Ok(Next::Editor(shape)),
+        Some(Command::Show) => show(rt, desk.editor())?,
+        None => print_bad(rt, number)?,
     }
-}
-
-// What follows a line whose answer was printed, or could not be.
-fn after(printed: anyhow::Result<()>) -> Next {
-    match printed {
-        Ok(()) => Next::Line,
-        Err(error) => Next::Failed(error),
-    }
+    Ok(Next::Line)
 }
 
 fn call_editor<S: Store>(
     rt: &HostRuntime,
-    editor: &mut Editor<S>,
-    held: Option<Ticket>,
+    desk: &mut Desk<S>,
     call: Call,
     flags: &mut [u8; 1024],
-) -> Result<Turn, Failure> {
+) -> anyhow::Result<()> {
     if takes_flags(call) {
         *flags = stale_flags();
     }
-    let Played { held, reply } = play(editor, held, call, flags)?;
-    let printed = print_called(rt, editor, reply, takes_flags(call), flags);
-    Ok(Turn {
-        held,
-        next: after(printed),
-    })
+    let reply = desk.play(call, flags);
+    print_called(rt, desk.editor(), reply, takes_flags(call), flags)
 }
 
 fn print_called<S: Store>(

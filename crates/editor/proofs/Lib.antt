@@ -4,6 +4,7 @@ mod Emptied
 mod Instance
 mod Laid
 pub mod Led
+pub mod Open
 mod Pinned
 mod Rotation
 mod Room

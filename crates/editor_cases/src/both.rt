@@ -1,6 +1,5 @@
 // A plan tried over both stores.
 use crate::call::Shape;
-use crate::fault::Fault;
 use crate::plan::Plan;
 use crate::stores::{log_memory, snapshot_memory, words_of};
 use crate::trial::{Trial, try_editor};
@@ -11,7 +10,7 @@ pub fn try_on_log<P: Plan + Drop>(
     shape: Shape,
     plan: P,
     by_name: bool,
-) -> Result<Trial, Fault> {
+) -> anyhow::Result<Trial> {
     let size = words_of(shape);
     let mut memory = log_memory(rt.alloc(), size, shape.limit)?;
     let store = InverseLog::new(&mut memory, size, shape.limit);
@@ -23,7 +22,7 @@ pub fn try_on_snapshot<P: Plan + Drop>(
     shape: Shape,
     plan: P,
     by_name: bool,
-) -> Result<Trial, Fault> {
+) -> anyhow::Result<Trial> {
     let size = words_of(shape);
     let mut memory = snapshot_memory(rt.alloc(), size, shape.limit)?;
     let store = Snapshot::new(&mut memory, size, shape.limit);

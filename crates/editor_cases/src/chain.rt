@@ -1,7 +1,7 @@
 // Chains of 1,024 signals, in which a put moves many.
+use crate::call::Call;
 use crate::compare::stands_at;
-use crate::fault::Fault;
-use crate::play::close;
+use crate::desk::Desk;
 use crate::report::report;
 use crate::stores::{log_memory, snapshot_memory};
 use editor::{Editor, Kind};
@@ -21,38 +21,38 @@ fn no_flags() -> [u8; 1024] {
 }
 
 // Adds a gate of one pin, and says whether so many moved.
-fn adds<S: Store>(editor: &mut Editor<S>, signal: u32, net: u32, count: u32) -> bool {
+fn adds<S: Store>(desk: &mut Desk<S>, signal: u32, net: u32, count: u32) -> bool {
     let mut flags = no_flags();
-    match editor.gate(signal, 1, [net, 0, 0, 0], 2, &mut flags) {
+    match desk.make_named(Call::Gate(signal, 1, [net, 0, 0, 0], 2), &mut flags) {
         Ok(moved) => moved == count,
         Err(_) => false,
     }
 }
 
-fn has_loop<S: Store>(editor: &mut Editor<S>, signal: u32, net: u32) -> bool {
+fn has_loop<S: Store>(desk: &mut Desk<S>, signal: u32, net: u32) -> bool {
     let mut flags = no_flags();
-    match editor.gate(signal, 1, [net, 0, 0, 0], 2, &mut flags) {
+    match desk.make_named(Call::Gate(signal, 1, [net, 0, 0, 0], 2), &mut flags) {
         Ok(_) => false,
         Err(refusal) => refusal == Refusal::Looped,
     }
 }
 
 // Gate n is on n + 1: each stands before the signal that it is on, so that a put moves all gates entered before.
-fn enter_backward<S: Store>(editor: &mut Editor<S>) -> bool {
+fn enter_backward<S: Store>(desk: &mut Desk<S>) -> bool {
     let mut good = true;
     for signal in 0..LAST {
-        good = adds(editor, signal, signal + 1, signal + 1) && good;
+        good = adds(desk, signal, signal + 1, signal + 1) && good;
     }
     good
 }
 
 // Gate n is on n - 1, so that nothing moves; then one put moves all gates.
-fn enter_forward<S: Store>(editor: &mut Editor<S>) -> bool {
+fn enter_forward<S: Store>(desk: &mut Desk<S>) -> bool {
     let mut good = true;
     for signal in 1..LAST {
-        good = adds(editor, signal, signal - 1, 0) && good;
+        good = adds(desk, signal, signal - 1, 0) && good;
     }
-    adds(editor, 0, LAST, LAST) && good
+    adds(desk, 0, LAST, LAST) && good
 }
 
 fn stands_backward<S: Store>(editor: &Editor<S>) -> bool {
@@ -102,42 +102,47 @@ fn shows_all(shown: &[u32]) -> bool {
     shown.len() == SIGNALS as usize
 }
 
-fn build_backward<S: Store>(editor: &mut Editor<S>) -> bool {
-    let entered = enter_backward(editor);
-    let looped = has_loop(editor, LAST, 0);
+fn build_backward<S: Store>(desk: &mut Desk<S>) -> bool {
+    let entered = enter_backward(desk);
+    let looped = has_loop(desk, LAST, 0);
+    let editor = desk.editor();
     entered && looped && shows_all(editor.loop_shown()) && stands_backward(editor)
 }
 
-fn build_forward<S: Store>(editor: &mut Editor<S>) -> bool {
-    enter_forward(editor) && stands_behind_last(editor)
+fn build_forward<S: Store>(desk: &mut Desk<S>) -> bool {
+    enter_forward(desk) && stands_behind_last(desk.editor())
+}
+
+fn build<S: Store>(desk: &mut Desk<S>, backward: bool) -> bool {
+    if desk.begin().is_err() {
+        return false;
+    }
+    if backward {
+        build_backward(desk)
+    } else {
+        build_forward(desk)
+    }
 }
 
 // Builds a chain in a batch, and drops it: each signal is back at its place.
-fn try_on<S: Store + Drop>(store: S, backward: bool) -> Result<bool, Fault> {
-    let mut editor = Editor::new(store, SIGNALS);
-    let Ok(ticket) = editor.begin() else {
-        return Ok(false);
-    };
-    let built = if backward {
-        build_backward(&mut editor)
-    } else {
-        build_forward(&mut editor)
-    };
-    close(&mut editor, Some(ticket))?;
-    Ok(built && is_empty(&editor))
+fn try_on<S: Store + Drop>(store: S, backward: bool) -> bool {
+    let mut desk = Desk::new(store, SIGNALS);
+    let built = build(&mut desk, backward);
+    let editor = desk.close();
+    built && is_empty(&editor)
 }
 
-fn try_on_log(rt: &HostRuntime, backward: bool) -> Result<bool, Fault> {
+fn try_on_log(rt: &HostRuntime, backward: bool) -> anyhow::Result<bool> {
     let mut memory = log_memory(rt.alloc(), SIZE, LIMIT)?;
-    try_on(InverseLog::new(&mut memory, SIZE, LIMIT), backward)
+    Ok(try_on(InverseLog::new(&mut memory, SIZE, LIMIT), backward))
 }
 
-fn try_on_snapshot(rt: &HostRuntime, backward: bool) -> Result<bool, Fault> {
+fn try_on_snapshot(rt: &HostRuntime, backward: bool) -> anyhow::Result<bool> {
     let mut memory = snapshot_memory(rt.alloc(), SIZE, LIMIT)?;
-    try_on(Snapshot::new(&mut memory, SIZE, LIMIT), backward)
+    Ok(try_on(Snapshot::new(&mut memory, SIZE, LIMIT), backward))
 }
 
-pub fn try_chains(rt: &HostRuntime) -> Result<bool, Fault> {
+pub fn try_chains(rt: &HostRuntime) -> anyhow::Result<bool> {
     let log = try_on_log(rt, true)?;
     let snapshot = try_on_snapshot(rt, true)?;
     let backward = report(

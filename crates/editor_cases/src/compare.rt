@@ -1,6 +1,6 @@
 // What an editor tells, against the model.
-use crate::board::{Board, Driver, Gate, Latch, Signal, is_loop, missing};
 use crate::model::Model;
+use crate::plain_board::{Board, Driver, Gate, Latch, Signal, is_loop, missing};
 use editor::{Editor, Kind, Pins};
 use words::Store;
 

@@ -1,15 +1,15 @@
 // Editors over both stores against the rules on plain lists: tables of calls, edges, and random runs.
 #![tactic(auto)]
 
-mod board;
 mod both;
 mod call;
 mod chain;
 mod compare;
-mod fault;
+mod desk;
 mod makings;
 mod model;
-mod places;
+mod plain_board;
+mod plain_places;
 mod plan;
 mod play;
 mod report;
@@ -18,10 +18,10 @@ mod tables;
 mod tickets;
 mod trial;
 
+use anyhow::anyhow;
 use both::{try_on_log, try_on_snapshot};
 use call::Shape;
 use chain::try_chains;
-use fault::Fault;
 use makings::try_makings;
 use plan::{Random, Row, Table};
 use std::alloc::Global;
@@ -42,7 +42,7 @@ fn try_table(
     signals: u32,
     limit: usize,
     rows: &[Row],
-) -> Result<bool, Fault> {
+) -> anyhow::Result<bool> {
     let shape = Shape { signals, limit };
     let model = model_meets(rt.alloc(), shape, rows)?;
     let log = try_on_log(rt, shape, Table::new(rows), true)?.good
@@ -74,7 +74,7 @@ fn print_table(
     Ok(())
 }
 
-fn try_rules(rt: &HostRuntime) -> Result<bool, Fault> {
+fn try_rules(rt: &HostRuntime) -> anyhow::Result<bool> {
     let worked = try_table(rt, "worked case", 5, 3, &WORKED)?;
     let refusals = try_table(rt, "each refusal", 4, 4, &REFUSALS)?;
     let absent = try_table(rt, "absent signals in use", 4, 3, &ABSENT)?;
@@ -83,7 +83,7 @@ fn try_rules(rt: &HostRuntime) -> Result<bool, Fault> {
     Ok(worked && refusals && absent && smallest && taken_back)
 }
 
-fn try_edges(rt: &HostRuntime) -> Result<bool, Fault> {
+fn try_edges(rt: &HostRuntime) -> anyhow::Result<bool> {
     let four_pins = try_table(rt, "four pins on one signal", 6, 3, &FOUR_PINS)?;
     let no_mark = try_table(rt, "no level for a mark", 1, 2, &NO_MARK)?;
     let six_marks = try_table(rt, "six marks", 2, 8, &SIX_MARKS)?;
@@ -93,7 +93,7 @@ fn try_edges(rt: &HostRuntime) -> Result<bool, Fault> {
 }
 
 // M from 1 to 24, D from 2 to 8.
-fn try_seed(rt: &HostRuntime, seed: u32) -> Result<bool, Fault> {
+fn try_seed(rt: &HostRuntime, seed: u32) -> anyhow::Result<bool> {
     let shape = Shape {
         signals: seed,
         limit: 2 + (seed % 7) as usize,
@@ -131,7 +131,7 @@ fn refused_text(heap: Global, refused: &[u32; 26]) -> anyhow::Result<String> {
     Ok(text)
 }
 
-fn try_random(rt: &HostRuntime) -> Result<bool, Fault> {
+fn try_random(rt: &HostRuntime) -> anyhow::Result<bool> {
     let mut differing: u32 = 0;
     for seed in 0..SEEDS {
         if !try_seed(rt, seed + 1)? {
@@ -149,7 +149,7 @@ fn print_random(rt: &HostRuntime, differing: u32) -> anyhow::Result<()> {
     Ok(())
 }
 
-fn run(rt: &HostRuntime) -> Result<(), Fault> {
+fn run(rt: &HostRuntime) -> anyhow::Result<()> {
     let rules = try_rules(rt)?;
     let edges = try_edges(rt)?;
     let makings = try_makings(rt)?;
@@ -159,10 +159,10 @@ fn run(rt: &HostRuntime) -> Result<(), Fault> {
     if rules && edges && makings && tickets && chains && random {
         Ok(())
     } else {
-        Err(Fault::Error("an editor differs from the rules".into()))
+        Err(anyhow!("an editor differs from the rules"))
     }
 }
 
-fn main(rt: HostRuntime) -> Result<(), Fault> {
+fn main(rt: HostRuntime) -> anyhow::Result<()> {
     run(&rt)
 }

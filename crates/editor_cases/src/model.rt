@@ -1,7 +1,7 @@
 // The rules of the editor on plain lists: a level is a copy of the whole board.
-use crate::board::{Board, Driver, Gate, Latch, in_use, is_absent, missing, pin_count};
 use crate::call::{Call, Reply, Shape};
-use crate::places::put;
+use crate::plain_board::{Board, Driver, Gate, Latch, in_use, is_absent, missing, pin_count};
+use crate::plain_places::put;
 use netlist::Edit;
 use std::alloc::{AllocError, Global};
 

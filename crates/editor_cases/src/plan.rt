@@ -1,7 +1,7 @@
 // Where the calls of a trial come from: a table, or a seed.
-use crate::board::{Driver, pin_count};
 use crate::call::{Call, Reply, Step};
 use crate::model::{Model, table_limit};
+use crate::plain_board::{Driver, pin_count};
 
 pub trait Plan {
     // The next call, which may be chosen by what the model has, or nothing at the end.

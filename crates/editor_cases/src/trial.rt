@@ -1,11 +1,11 @@
 // An editor and the model, played side by side until they differ.
 use crate::call::{Call, Reply, Shape, Step};
 use crate::compare::difference;
-use crate::fault::Fault;
+use crate::desk::Desk;
 use crate::model::Model;
 use crate::plan::Plan;
-use crate::play::{Played, close, play};
-use editor::{Editor, Ticket};
+use crate::play::{Played, play};
+use editor::Editor;
 use std::alloc::{AllocError, Global};
 use words::Store;
 
@@ -57,55 +57,43 @@ impl Trial {
     }
 }
 
-// Makes an editor over a store, and plays a plan on it and on the model. The first difference is printed, and ends the trial.
+// Makes an editor over a store, and plays a plan on it and on the model. A batch that is still open then is dropped.
 pub fn try_editor<S: Store + Drop, P: Plan + Drop>(
     rt: &HostRuntime,
     store: S,
     shape: Shape,
     plan: P,
     by_name: bool,
-) -> Result<Trial, Fault> {
+) -> anyhow::Result<Trial> {
+    let mut desk = Desk::new(store, shape.signals);
+    let trial = play_plan(rt, &mut desk, shape, plan, by_name);
+    let _ = desk.close();
+    trial
+}
+
+// The first difference is printed, and ends the trial.
+fn play_plan<S: Store, P: Plan + Drop>(
+    rt: &HostRuntime,
+    desk: &mut Desk<S>,
+    shape: Shape,
+    plan: P,
+    by_name: bool,
+) -> anyhow::Result<Trial> {
     let mut plan = plan;
-    let mut editor = Editor::new(store, shape.signals);
-    let mut model = new_model(rt.alloc(), shape)?;
+    let mut model = Model::new(rt.alloc(), shape)?;
     let mut trial = Trial::new();
-    let mut held = None;
     for _ in 0..CALLS_MOST {
         let Some(step) = plan.next_step(&model) else {
             break;
         };
-        let Played {
-            held: left,
-            reply,
-            clean,
-        } = play(&mut editor, held, step.call, by_name)?;
-        held = left;
-        match judge(rt, &editor, &mut model, step, reply, clean) {
-            Ok(good) => {
-                trial.count(reply);
-                trial.good = good;
-            }
-            Err(error) => return stop(&mut editor, held, error),
-        }
+        let Played { reply, clean } = play(desk, step.call, by_name);
+        trial.good = judge(rt, desk.editor(), &mut model, step, reply, clean)?;
+        trial.count(reply);
         if !trial.good {
             break;
         }
     }
-    close(&mut editor, held)?;
     Ok(trial)
-}
-
-fn new_model(heap: Global, shape: Shape) -> anyhow::Result<Model> {
-    Ok(Model::new(heap, shape)?)
-}
-
-fn stop<S: Store>(
-    editor: &mut Editor<S>,
-    held: Option<Ticket>,
-    error: anyhow::Error,
-) -> Result<Trial, Fault> {
-    close(editor, held)?;
-    Err(Fault::Error(error))
 }
 
 // Plays a call on the model too, and says whether the editor did the same. A difference is printed.

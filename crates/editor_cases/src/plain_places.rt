@@ -1,5 +1,5 @@
 // The rule of places on plain lists: what is reached is found by going over all gates again and again until nothing is added.
-use crate::board::{Board, Signal, feeds};
+use crate::plain_board::{Board, Signal, feeds};
 use std::alloc::{AllocError, Global};
 
 // Puts a pin of a gate on a signal; the netlist has the pin already. Gives the count, or nothing where this makes a loop.
