@@ -1,6 +1,7 @@
 mod Alike
 mod Batches
 mod Emptied
+pub mod Holding
 mod Instance
 mod Laid
 pub mod Led

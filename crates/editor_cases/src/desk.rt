@@ -1,6 +1,6 @@
 // An editor with the ticket of its open batch.
 ghost use Rattle.std.specs.Prelude.{◌≡◌, None, Some};
-ghost use Rattle.editor_cases.specs.Held.{Holds, left};
+ghost use Rattle.editor.specs.Held.{Holds, left};
 
 use crate::call::Call;
 use editor::{Editor, Returned, Ticket};

@@ -1,4 +1,4 @@
-use Rattle.console.proofs.Holding.{never_refused}
+use Rattle.editor.proofs.Holding.{never_refused}
 use Rattle.console.proofs.desk.drop_open.Goals as goal
 
 pub unreachable-requires : goal.unreachable-requires

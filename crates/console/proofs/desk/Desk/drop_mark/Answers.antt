@@ -1,4 +1,4 @@
-use Rattle.console.proofs.Holding.{held_on}
+use Rattle.editor.proofs.Holding.{held_on}
 use Rattle.console.proofs.desk.Desk.drop_mark.Goals as goal
 
 pub invariant_of-self : goal.invariant_of-self

@@ -1,4 +1,4 @@
-use Rattle.console.proofs.Holding.{made_held}
+use Rattle.editor.proofs.Holding.{made_held}
 use Rattle.console.proofs.desk.Desk.new.Goals as goal
 
 pub invariant_of-result : goal.invariant_of-result

@@ -1,4 +1,4 @@
-use Rattle.editor_cases.proofs.Holding.{held_on, none_held, begun_held}
+use Rattle.editor.proofs.Holding.{held_on, none_held, begun_held}
 use Rattle.editor_cases.proofs.desk.Desk.begin.Goals as goal
 
 pub invariant_of-self : goal.invariant_of-self

@@ -1,4 +1,4 @@
-use Rattle.editor_cases.proofs.Holding.{closed_held}
+use Rattle.editor.proofs.Holding.{closed_held}
 use Rattle.editor_cases.proofs.desk.Desk.keep.Goals as goal
 
 pub invariant_of-self-in-Some : goal.invariant_of-self-in-Some

@@ -1,5 +1,5 @@
 use Rattle.std.proofs.Common.{is_some, sym, ap}
-use Rattle.editor_cases.proofs.Holding.{other_held, none_on}
+use Rattle.editor.proofs.Holding.{other_held, none_on}
 use Rattle.editor_cases.proofs.desk.Desk.keep_at.Goals as goal
 
 pub invariant_of-other : goal.invariant_of-other

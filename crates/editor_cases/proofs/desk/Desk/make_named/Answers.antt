@@ -1,4 +1,4 @@
-use Rattle.editor_cases.proofs.Holding.{held_on}
+use Rattle.editor.proofs.Holding.{held_on}
 use Rattle.editor_cases.proofs.desk.Desk.make_named.Goals as goal
 
 pub invariant_of-self : goal.invariant_of-self

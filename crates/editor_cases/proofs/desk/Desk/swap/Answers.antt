@@ -1,4 +1,4 @@
-use Rattle.editor_cases.proofs.Holding.{other_held}
+use Rattle.editor.proofs.Holding.{other_held}
 use Rattle.editor_cases.proofs.desk.Desk.swap.Goals as goal
 
 pub invariant_of-self : goal.invariant_of-self

@@ -1,5 +1,5 @@
 -- What a call makes of the ticket at hand.
-use Rattle.std.proofs.Common.{◌≡◌, ℕ, ◌<◌, Some, None, Option, Ok, Err, Result, sym, refl, subst}
+use Rattle.std.proofs.Common.{◌≡◌, ℕ, ◌<◌, Some, None, Option, IsSome, Ok, Err, Result, sym, refl, subst}
 use Rattle.std.proofs.Math.Logic.{∥∥₁_elim, ∥∥₁_map}
 use Rattle.words.specs.Meaning.{Meaning}
 use Rattle.netlist.specs.declared.edit.Refusal.{Refusal}
@@ -11,7 +11,7 @@ use Rattle.editor.specs.Calls.{Replies}
 use Rattle.editor.specs.Made.{Starts}
 use Rattle.editor.specs.Steps.{Steps, Idle, closed}
 use Rattle.editor.proofs.Open.{Stays, still_open, refused_open, begun_open, begun_shut, dropped_open, begun_some, replies_by, led_by, led_new}
-use Rattle.console.specs.Held.{Backed, Holds, left}
+use Rattle.editor.specs.Held.{Backed, Holds, left}
 
 -- a new editor has no ticket out
 pub made_held : (m m' : ℕ) (a a' : Meaning) → Starts m a m' a' → ∥ Holds m' a' None ∥₁
@@ -66,3 +66,22 @@ closed_held m m' a a' c r held held' ticket same steps is was h =
 pub never_refused : (m : ℕ) (a a' : Meaning) (r : Refusal) (ticket : Ticket) → Steps m a Drop a' (Err r) → ∥ Holds m a (Some ticket) ∥₁ → ⊥
 never_refused m a a' r ticket steps h =
     ∥∥₁_elim h (λ x. absurd x) (λ k. dropped_open m a a' r (replies_by m a a' Drop (Err r) steps k.led k.backed.0) k.backed.1)
+
+-- ---- tickets of another editor
+
+-- Behind one ticket any other may stand, or none.
+backed_any : (m : ℕ) (a : Meaning) (held held' : Option Ticket) → IsSome held → Backed m a held → Backed m a held'
+backed_any m a None held' some backed = absurd cc
+backed_any m a (Some ticket) None some backed = tt
+backed_any m a (Some ticket) (Some other) some backed = backed
+
+pub other_held : (m : ℕ) (a : Meaning) (held held' : Option Ticket) → IsSome held → ∥ Holds m a held ∥₁ → ∥ Holds m a held' ∥₁
+other_held m a held held' some h = ∥∥₁_map h (λ k. record { led = k.led; backed = backed_any m a held held' some k.backed })
+
+-- where none is at hand, any call may be made
+pub none_on : (m m' : ℕ) (a a' : Meaning) (c : Call) (r : Result ℕ Refusal) (held : Option Ticket) → held ≡ None → m' ≡ m → Steps m a c a' r → ∥ Holds m a held ∥₁
+    → ∥ Holds m' a' held ∥₁
+none_on m m' a a' c r held none same steps h =
+    ∥∥₁_map h (λ k.
+    subst (λ n. Holds n a' held) (sym same)
+    (subst (Holds m a') (sym none) (record { led = led_by m a a' c r steps k.led; backed = tt })))
