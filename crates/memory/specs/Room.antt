@@ -1,0 +1,19 @@
+-- How many words a host lends for a store, and what a store over them means.
+use Rattle.std.specs.Prelude.{◌≡◌, ℕ, ◌+◌, ◌*◌, ◌≤◌, min, List}
+use Rattle.words.specs.Making.{fresh, cleared}
+use Rattle.words.specs.Meaning.{Meaning}
+
+-- The inverse log takes three words for each word and level, and two more for each word. The snapshot takes fewer.
+abbrev pub room : ℕ → ℕ → ℕ
+room n d = min n 65536 * (3 * min d 8 + 2)
+
+-- N and D in their ranges
+pub record Served (n d : ℕ) : Type 0 where
+  pub few_words : n ≤ 65536
+  pub some_levels : 2 ≤ d
+  pub few_levels : d ≤ 8
+
+-- the meaning of the store that is made, and the memory that its making leaves: there is always room, so only the ranges count
+pub record Gives (n d : ℕ) (m : Meaning) (before after : List ℕ) : Type 0 where
+  pub served : Served n d → (m ≡ fresh n d) × (after ≡ cleared n before)
+  pub refused : (Served n d → ⊥) → (m ≡ fresh 0 2) × (after ≡ before)
