@@ -1,6 +1,7 @@
 -- The bits of numbers.
-use Rattle.std.proofs.Common.{◌≡◌, ℕ, zero, suc, ◌+◌, ◌*◌, ◌/◌, ◌%◌, ◌^◌, ◌<◌, ◌≤◌, max, sym, ap, ◌∙◌, mod-lt, one-add, arith, pow_pos, pow_mono, shr-shr}
+use Rattle.std.proofs.Common.{◌≡◌, ℕ, zero, suc, ◌+◌, ◌*◌, ◌/◌, ◌%◌, ◌^◌, ◌<◌, ◌≤◌, max, cond, ltb, sym, refl, ap, ⊎_elim, ◌∙◌, mod-lt, one-add, arith, pow_pos, pow_mono, shr-shr}
 use native.Mathlib.Nat.{div-eq_of_lt, pow-succ'}
+use Rattle.std.proofs.lemmas.Bool.{cond_below, cond_above, cases_lt}
 use lib.Arith.{digits_mod}
 use lib.Pow.{split}
 use lib.Bits.{bit_or, or_shr, or_step}
@@ -45,6 +46,18 @@ bits_fit k n none =
 
 pub bit-or : (x y i : ℕ) → bit (bit_or x y) i ≡ max (bit x i) (bit y i)
 bit-or x y i = ap (λ z. z % 2) (or_shr x y i ∙ or_step (x / 2 ^ i) (y / 2 ^ i)) ∙ digits_mod (bit_or (x / 2 ^ i / 2) (y / 2 ^ i / 2)) (omega arith)
+
+-- A one shifted by few places is a power.
+pub one_shl : (r : ℕ) → r ≤ 16 → 1 * 2 ^ r % 2 ^ 32 ≡ 2 ^ r
+one_shl r few = let p : 2 ^ r ≤ 2 ^ 16 = pow_mono few in omega arith
+
+-- What a shift by any number of places leaves shows the bit.
+pub bit_shifted : (n i r : ℕ) → n < 2 ^ 32 → r ≡ cond (ltb i 32) (n / 2 ^ i) 0 → r % 2 ≡ bit n i
+bit_shifted n i r fits is =
+    ⊎_elim
+    (λ low. ap (λ x. x % 2) (is ∙ sym (cond_below i 32 (n / 2 ^ i) 0 low)))
+    (λ past. ap (λ x. x % 2) (is ∙ sym (cond_above i 32 (n / 2 ^ i) 0 0 past refl)) ∙ sym (bit_past n 32 i fits past))
+    (cases_lt i 32)
 
 -- A table has no bit at or above 16, whatever its pins.
 pub table_below : (pins bits : ℕ) → pins ≤ 4 → bits < 2 ^ (2 ^ pins) → bits < 2 ^ 16

@@ -1,5 +1,5 @@
 -- The 1-minterms of a table, and the lines written of them.
-use Rattle.std.proofs.Common.{◌≡◌, ℕ, zero, suc, ◌+◌, ◌-◌, ◌^◌, ◌<◌, ◌≤◌, cond, eqb, List, [], ◌∷◌, ◌++◌, map, length, get_or, codes, filter, sym, refl, ap, ◌∙◌, subst, inl, inr, ⊎_elim, append-nil, add-zero, add-suc, add-one, arith}
+use Rattle.std.proofs.Common.{◌≡◌, ℕ, zero, suc, ◌+◌, ◌^◌, ◌<◌, false, cond, eqb, List, [], ◌∷◌, ◌++◌, map, length, get_or, codes, filter, sym, refl, ap, ◌∙◌, subst, inl, inr, ⊎_elim, append-nil, add-zero, add-one, arith}
 use lib.ListN.{length-map}
 use Rattle.std.specs.List.{range_with_len, ContainsAt, AllByRecursion}
 use Rattle.std.proofs.lemmas.List.FromFn.{length-map-range_with_len, get_or-map-range_with_len}
@@ -25,47 +25,32 @@ module _ (bits : ℕ) where
       ap (filter (λ m. eqb (bit bits m) 1)) (counting_push 0 n ∙ ap (λ x. range_with_len 0 n ++ x ∷ []) (omega arith))
       ∙ filter-append (λ m. eqb (bit bits m) 1) (range_with_len 0 n) (n ∷ [])
 
-  ones_yes : (n : ℕ) → bit bits n ≡ 1 → ones_below bits (suc n) ≡ ones_below bits n ++ n ∷ []
-  ones_yes n one = ones_suc n ∙ ap (λ xs. ones_below bits n ++ xs) (cond-true (eqb (bit bits n) 1) (n ∷ []) [] (eq-eqb _ 1 one))
+  -- The 1-minterms below a number, with that number where it is one.
+  pub ones_yes : (n : ℕ) → bit bits n ≡ 1 → ones_below bits (n + 1) ≡ ones_below bits n ++ n ∷ []
+  ones_yes n one =
+      ap (ones_below bits) (add-one n) ∙ ones_suc n
+      ∙ ap (λ xs. ones_below bits n ++ xs) (cond-true (eqb (bit bits n) 1) (n ∷ []) [] (eq-eqb _ 1 one))
 
-  ones_no : (n : ℕ) → bit bits n ≡ 0 → ones_below bits (suc n) ≡ ones_below bits n
+  pub ones_no : (n : ℕ) → eqb (bit bits n) 1 ≡ false → ones_below bits (n + 1) ≡ ones_below bits n
   ones_no n none =
-      ones_suc n
-      ∙ ap (λ xs. ones_below bits n ++ xs) (cond-false (eqb (bit bits n) 1) (n ∷ []) [] (ne_eqb _ 1 (λ one. omega arith)))
+      ap (ones_below bits) (add-one n) ∙ ones_suc n
+      ∙ ap (λ xs. ones_below bits n ++ xs) (cond-false (eqb (bit bits n) 1) (n ∷ []) [] none)
       ∙ append-nil (ones_below bits n)
-
-  -- Where there is no 1-minterm between two numbers, those below the one are those below the other.
-  pub ones_stay : (from d : ℕ) → ((m : ℕ) → from ≤ m → m < from + d → bit bits m ≡ 0) → ones_below bits (from + d) ≡ ones_below bits from
-  ones_stay from zero none = ap (ones_below bits) (add-zero from)
-  ones_stay from (suc d) none =
-      ap (ones_below bits) (add-suc from d)
-      ∙ ones_no (from + d) (none (from + d) (omega arith) (omega arith))
-      ∙ ones_stay from d (λ m l h. none m l (omega arith))
-
-  pub ones_to : (from to : ℕ) → from ≤ to → ((m : ℕ) → from ≤ m → m < to → bit bits m ≡ 0) → ones_below bits to ≡ ones_below bits from
-  ones_to from to h none =
-      ap (ones_below bits) (omega arith) ∙ ones_stay from (to - from) (λ m l k. none m l (omega arith))
-
-  -- The next 1-minterm follows those before it.
-  pub ones-next :
-      (from one : ℕ) → from ≤ one → bit bits one ≡ 1 → ((m : ℕ) → from ≤ m → m < one → bit bits m ≡ 0)
-      → ones_below bits (one + 1) ≡ ones_below bits from ++ one ∷ []
-  ones-next from one h is none = ap (ones_below bits) (add-one one) ∙ ones_yes one is ∙ ap (λ xs. xs ++ one ∷ []) (ones_to from one h none)
 
   ones_are : (n : ℕ) → AllByRecursion (λ m. (m < n) × (bit bits m ≡ 1)) (ones_below bits n)
   ones_are zero = tt
   ones_are (suc n) =
       let before = All-weaker (λ m. (m < n) × (bit bits m ≡ 1)) (λ m. (m < suc n) × (bit bits m ≡ 1)) (λ m p. (omega (arith, p.0), p.1)) (ones_below bits n) (ones_are n) in
       ⊎_elim
-      (λ one. subst (AllByRecursion (λ m. (m < suc n) × (bit bits m ≡ 1))) (sym (ones_yes n one)) (All-append _ (ones_below bits n) (n ∷ []) before ((omega arith, one), tt)))
-      (λ not. subst (AllByRecursion (λ m. (m < suc n) × (bit bits m ≡ 1))) (sym (ones_no n (omega (arith, bit-lt bits n)))) before)
+      (λ one. subst (AllByRecursion (λ m. (m < suc n) × (bit bits m ≡ 1))) (sym (ap (ones_below bits) (sym (add-one n)) ∙ ones_yes n one)) (All-append _ (ones_below bits n) (n ∷ []) before ((omega arith, one), tt)))
+      (λ not. subst (AllByRecursion (λ m. (m < suc n) × (bit bits m ≡ 1))) (sym (ap (ones_below bits) (sym (add-one n)) ∙ ones_no n (ne_eqb _ 1 not))) before)
       (cases_eq (bit bits n) 1)
 
   ones_have : (n m : ℕ) → m < n → bit bits m ≡ 1 → ContainsAt (ones_below bits n) m
   ones_have zero m h one = absurd (omega arith)
   ones_have (suc n) m h one =
       ⊎_elim
-      (λ same. subst (λ xs. ContainsAt xs m) (sym (ones_yes n (subst (λ k. bit bits k ≡ 1) same one))) (subst (λ k. ContainsAt (ones_below bits n ++ n ∷ []) k) (sym same) (has_push (ones_below bits n) n)))
+      (λ same. subst (λ xs. ContainsAt xs m) (sym (ap (ones_below bits) (sym (add-one n)) ∙ ones_yes n (subst (λ k. bit bits k ≡ 1) same one))) (subst (λ k. ContainsAt (ones_below bits n ++ n ∷ []) k) (sym same) (has_push (ones_below bits n) n)))
       (λ other. subst (λ xs. ContainsAt xs m) (sym (ones_suc n)) (has_append_left (ones_below bits n) _ m (ones_have n m (omega arith) one)))
       (cases_eq m n)
 

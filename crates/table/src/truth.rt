@@ -6,40 +6,22 @@ use crate::fault::TableFault;
 use crate::shape::Table;
 
 /// How many minterms a gate with `pins` pins has.
+#[tactic(auto, using(crate::proofs::Bit::one_shl))]
 pub(crate) fn rows(pins: u32) -> u32
     requires { pins ≤ 4 }
     ensures value { result ≡ 2 ^ pins }
     ensures few { result ≤ 16 }
 {
-    match pins {
-        0 => 1,
-        1 => 2,
-        2 => 4,
-        3 => 8,
-        _ => 16,
-    }
-}
-
-/// The first number that is no table of a gate with `pins` pins.
-fn limit(pins: u32) -> u32
-    requires { pins ≤ 4 }
-    ensures { result ≡ 2 ^ (2 ^ pins) }
-{
-    match pins {
-        0 => 2,
-        1 => 4,
-        2 => 16,
-        3 => 256,
-        _ => 65536,
-    }
+    1 << pins
 }
 
 impl Table {
+    #[tactic(auto, using(crate::proofs::Bit::one_shl))]
     /// The table of these two numbers, refused exactly when they are none.
     pub fn new(pins: u32, bits: u32) -> Result<Table, TableFault>
         ensures { MatchResult result (λ t. IsTable pins bits × (t.pins ≡ pins) × (t.bits ≡ bits)) (λ _. IsTable pins bits → ⊥) }
     {
-        if pins > 4 || bits >= limit(pins) {
+        if pins > 4 || bits >= 1 << rows(pins) {
             return Err(TableFault::Unfit);
         }
         Ok(Table { pins, bits })
@@ -63,6 +45,6 @@ impl Table {
     pub fn value(self, minterm: u32) -> bool
         ensures { result ≡ (bit self.bits minterm == 1) }
     {
-        minterm < 16 && (self.bits >> minterm) % 2 == 1
+        self.bits.unbounded_shr(minterm) % 2 == 1
     }
 }
