@@ -5,7 +5,7 @@ use native.Mathlib.Nat.{pow-succ'}
 use Rattle.std.proofs.lemmas.Bool.{eqb-true, eq-eqb, ne_eqb}
 use Rattle.table.specs.Bit.{bit}
 use Rattle.table.specs.Line.{Holds}
-use Rattle.table.proofs.Bit.{bit_later}
+use Rattle.std.proofs.lemmas.Nat.Bits.{bit_at-suc}
 
 -- The set has the answers of a test at the minterms from m on, shifted down by m.
 pub record Built (rows m set : ℕ) (R : ℕ → Bool → Type 0) : Type 0 where
@@ -26,7 +26,7 @@ module _ (rows m set : ℕ) (R : ℕ → Bool → Type 0) (t : Bool) (built : Bu
   below (suc j) h =
       let at : m + j ≡ m - 1 + suc j = omega arith in
       let half : (2 * set + from_bool t) / 2 ≡ set = omega (arith, push-lt t) in
-      let same = bit_later (2 * set + from_bool t) j ∙ ap (λ x. bit x j) half in
+      let same = bit_at-suc (2 * set + from_bool t) j ∙ ap (λ x. bit x j) half in
       rw same (subst (λ k. R k (eqb (bit set j) 1)) at (built.each j (omega arith)))
 
   pub built_more : Built rows (m - 1) (2 * set + from_bool t) R

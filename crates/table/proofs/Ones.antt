@@ -12,7 +12,7 @@ use Rattle.table.specs.Bit.{bit}
 use Rattle.table.specs.Line.{Line, Covers, Formed, IsCover}
 use Rattle.table.specs.Laws.{ReadsBack, MeansOne}
 use Rattle.table.specs.Written.{character_at, plane_at, ones_below, line_at, lines_of}
-use Rattle.table.proofs.Bit.{bit-lt, bits-same}
+use Rattle.std.proofs.lemmas.Nat.Bits.{bit_at-lt, same_from_bits_below}
 use Rattle.table.proofs.Lines.{alike_some, both_outputs}
 
 counting_push : (a n : ℕ) → range_with_len a (suc n) ≡ range_with_len a n ++ (a + n) ∷ []
@@ -70,7 +70,7 @@ module _ (pins m : ℕ) where
   plane-covers i h = inr (plane-at i (omega (arith, plane_long)))
 
   plane_only : (n : ℕ) → m < 2 ^ pins → n < 2 ^ pins → Covers (plane_at pins m) n → m ≡ n
-  plane_only n hm hn covers = bits-same pins m n hm hn (λ i h.
+  plane_only n hm hn covers = same_from_bits_below pins m n hm hn (λ i h.
       let at = plane-at i h in
       ⊎_elim (λ dash. absurd (omega arith)) (λ digit. omega arith) (covers i (omega (arith, plane_long))))
 
@@ -79,7 +79,7 @@ module _ (pins m : ℕ) where
     long = plane_long;
     characters = λ i h.
         let at = plane-at i (omega (arith, plane_long)) in
-        ⊎_elim (λ one. inr (inl (omega arith))) (λ not. inl (omega (arith, bit-lt m i))) (cases_eq (bit m i) 1);
+        ⊎_elim (λ one. inr (inl (omega arith))) (λ not. inl (omega (arith, bit_at-lt m i))) (cases_eq (bit m i) 1);
     ends = inr refl;
   }
 
@@ -118,9 +118,9 @@ reads-back pins bits fits = (
     lines = lines_of pins bits
 
 pub means_one_table : MeansOne
-means_one_table pins lines x y mx my = bits-same (2 ^ pins) x y mx.fits my.fits (λ m l.
-    let low = bit-lt x m in
-    let low' = bit-lt y m in
+means_one_table pins lines x y mx my = same_from_bits_below (2 ^ pins) x y mx.fits my.fits (λ m l.
+    let low = bit_at-lt x m in
+    let low' = bit_at-lt y m in
     ⊎_elim
     (λ one. let e = (my.bitwise m l).1 ((mx.bitwise m l).0 one) in omega arith)
     (λ not. ⊎_elim (λ one. let e = (mx.bitwise m l).1 ((my.bitwise m l).0 one) in omega arith) (λ not'. omega arith) (cases_eq (bit y m) 1))

@@ -7,7 +7,7 @@ ghost use Rattle.table.specs.Reading.{line_of};
 
 use crate::fault::{CoverFault, TableFault};
 use crate::shape::{Cover, CoverLine, Output, Table};
-use crate::truth::rows;
+use crate::truth::{bit_at, rows};
 
 /// Whether each character of a plane is 0, 1 or -.
 fn formed(plane: &[u8]) -> bool
@@ -73,17 +73,6 @@ impl TryFrom<&[u8]> for Output {
 pub(crate) struct Row {
     minterms: u32,
     output: Output,
-}
-
-/// The value at a minterm, by how the lines end and whether one of them covers it.
-fn value(output: Option<Output>, covered: bool) -> bool
-    ensures { Decides result (IsOne output covered) }
-{
-    match output {
-        None => false,
-        Some(Output::One) => covered,
-        Some(Output::Zero) => !covered,
-    }
 }
 
 impl Cover {
@@ -153,20 +142,26 @@ impl Cover {
         Ok(())
     }
 
+    /// The value at a minterm, by how the lines end and whether one of them covers it.
+    fn value(self, minterm: u32) -> bool
+        ensures { Decides result (IsOne self.output (bit self.listed minterm == 1)) }
+    {
+        let covered = bit_at(self.listed, minterm) == 1;
+        match self.output {
+            None => false,
+            Some(Output::One) => covered,
+            Some(Output::Zero) => !covered,
+        }
+    }
+
     /// The table that the lines taken mean.
     pub fn table(&self) -> Table
         ensures pins { result.pins ≡ self.now.pins }
         ensures gives { (lines : List Line) → Read lines self.now → Gives self.now.pins lines result.bits }
     {
-        let Cover {
-            pins,
-            output,
-            listed,
-        } = *self;
-        let bits = passing(
-            rows(pins),
-            |minterm| value(output, (listed >> minterm) % 2 == 1),
-        );
-        Table { pins, bits }
+        Table {
+            pins: self.pins,
+            bits: passing(rows(self.pins), |minterm| self.value(minterm)),
+        }
     }
 }

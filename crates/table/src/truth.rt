@@ -15,9 +15,17 @@ pub(crate) fn rows(pins: u32) -> u32
     1 << pins
 }
 
+/// Bit `i` of a number, which has none past its last: there it is 0.
+#[tactic(auto, using(crate::proofs::Bit::bit_shifted))]
+pub(crate) fn bit_at(number: u32, i: u32) -> u32
+    ensures { result ≡ bit number i }
+{
+    number.unbounded_shr(i) % 2
+}
+
 impl Table {
-    #[tactic(auto, using(crate::proofs::Bit::one_shl))]
     /// The table of these two numbers, refused exactly when they are none.
+    #[tactic(auto, using(crate::proofs::Bit::one_shl))]
     pub fn new(pins: u32, bits: u32) -> Result<Table, TableFault>
         ensures { MatchResult result (λ t. IsTable pins bits × (t.pins ≡ pins) × (t.bits ≡ bits)) (λ _. IsTable pins bits → ⊥) }
     {
@@ -45,6 +53,6 @@ impl Table {
     pub fn value(self, minterm: u32) -> bool
         ensures { result ≡ (bit self.bits minterm == 1) }
     {
-        self.bits.unbounded_shr(minterm) % 2 == 1
+        bit_at(self.bits, minterm) == 1
     }
 }

@@ -3,7 +3,7 @@ ghost use Rattle.table.specs.Written.{NextOne, character_at, plane_at};
 
 use crate::fault::ReadFault;
 use crate::shape::{Cover, CoverLine, Table};
-use crate::truth::rows;
+use crate::truth::{bit_at, rows};
 use std::array;
 
 impl Table {
@@ -19,7 +19,7 @@ impl Table {
 pub fn character(minterm: u32, pin: u32) -> u8
     ensures { result ≡ character_at minterm pin }
 {
-    b'0' + (minterm.unbounded_shr(pin) % 2) as u8
+    b'0' + bit_at(minterm, pin) as u8
 }
 
 /// The characters of four pins in the plane of one minterm: the first k are its plane at a gate with k pins.
@@ -33,7 +33,7 @@ pub fn plane(minterm: u32) -> [u8; 4]
 pub fn round_trip(table: Table) -> Result<Table, ReadFault>
     ensures { MatchResult result (λ t. (t.pins ≡ table.pins) × (t.bits ≡ table.bits)) (λ _. ⊥) }
 {
-    let mut cover = Cover::new(table.pins())?;
+    let mut cover = Cover::new(table.pins)?;
     for minterm in 0..rows(table.pins) {
         if table.value(minterm) {
             let plane = plane(minterm);

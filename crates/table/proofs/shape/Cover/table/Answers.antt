@@ -9,6 +9,6 @@ pub returns-clause-gives : goal.returns-clause-gives
 returns-clause-gives c =
     let self = c.args.self.now in
     let built =
-    holds_passing self.pins c.rows.result c.passing-bits.result (λ m. IsOne self.output (eqb (bit self.listed m) 1)) c.rows.ensures.value c.passing-bits.ensures.fits
-    (λ m l. let told = c.passing-bits.ensures.each m l in search rules) in
-    λ lines read. (known_cover self.pins self.listed self.output lines read, known-means self.pins self.listed c.passing-bits.result self.output lines read built)
+    holds_passing self.pins c.rows.result c.passing.result (λ m. IsOne self.output (eqb (bit self.listed m) 1)) c.rows.ensures.value c.passing.ensures.fits
+    (λ m l. let told = c.passing.ensures.each m l in search rules) in
+    λ lines read. (known_cover self.pins self.listed self.output lines read, known-means self.pins self.listed c.passing.result self.output lines read built)

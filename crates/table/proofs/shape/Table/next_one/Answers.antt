@@ -3,11 +3,11 @@ use Rattle.std.proofs.lemmas.Bool.{eqb-true, eqb-false}
 use Rattle.std.proofs.lemmas.Iterator.{first_from_Range}
 use Rattle.table.specs.Bit.{bit}
 use Rattle.table.specs.Written.{NextOne}
-use Rattle.table.proofs.Bit.{bit-lt}
+use Rattle.std.proofs.lemmas.Nat.Bits.{bit_at-lt}
 use Rattle.table.proofs.shape.Table.next_one.Goals as goal
 
 none_is_zero : (bits m : ℕ) → eqb (bit bits m) 1 ≡ false → bit bits m ≡ 0
-none_is_zero bits m none = omega (arith, bit-lt bits m, eqb-false (bit bits m) 1 none)
+none_is_zero bits m none = omega (arith, bit_at-lt bits m, eqb-false (bit bits m) 1 none)
 
 next_found :
     (pins rows bits from : ℕ) (r : Option ℕ) → rows ≡ 2 ^ pins
