@@ -1,11 +1,10 @@
 -- The 1-minterms of a table, and the lines written of them.
-use Rattle.std.proofs.Common.{◌≡◌, ℕ, zero, suc, ◌+◌, ◌^◌, ◌<◌, false, cond, eqb, List, [], ◌∷◌, ◌++◌, map, length, get_or, codes, filter, sym, refl, ap, ◌∙◌, subst, inl, inr, ⊎_elim, append-nil, add-zero, add-one, arith}
+use Rattle.std.proofs.Common.{◌≡◌, ℕ, zero, suc, ◌+◌, ◌^◌, ◌<◌, false, cond, eqb, List, [], ◌∷◌, ◌++◌, map, length, get_or, codes, sym, refl, ap, ◌∙◌, subst, inl, inr, ⊎_elim, append-nil, add-one, arith}
 use lib.ListN.{length-map}
-use Rattle.std.specs.List.{range_with_len, ContainsAt, AllByRecursion}
-use Rattle.std.proofs.lemmas.List.FromFn.{length-map-range_with_len, get_or-map-range_with_len}
-use Rattle.std.proofs.lemmas.List.Elements.{filter-append}
+use Rattle.std.specs.List.{ContainsAt, AllByRecursion}
+use Rattle.std.proofs.lemmas.List.FromFn.{filter_of_map_range_with_len_more, length-map-range_with_len, get_or-map-range_with_len}
 use Rattle.std.proofs.ByRecursion.{All-append, All-weaker, All-map, all-has, has_append_left, has_push}
-use Rattle.std.proofs.lemmas.List.{get_or-map}
+use Rattle.std.proofs.lemmas.List.{get_or-map, map-id}
 use Rattle.std.proofs.lemmas.Bool.{eq-eqb, ne_eqb, cases_eq, cond-true, cond-false}
 use Rattle.table.specs.declared.shape.Output.TheVariants.{One}
 use Rattle.table.specs.Bit.{bit}
@@ -15,43 +14,39 @@ use Rattle.table.specs.Written.{character_at, plane_at, ones_below, line_at, lin
 use Rattle.std.proofs.lemmas.Nat.Bits.{bit_at-lt, same_from_bits_below}
 use Rattle.table.proofs.Lines.{alike_some, both_outputs}
 
-counting_push : (a n : ℕ) → range_with_len a (suc n) ≡ range_with_len a n ++ (a + n) ∷ []
-counting_push a zero = ap (λ x. x ∷ []) (sym (add-zero a))
-counting_push a (suc n) = ap (λ xs. a ∷ xs) (counting_push (a + 1) n ∙ ap (λ x. range_with_len (a + 1) n ++ x ∷ []) (omega arith))
-
 module _ (bits : ℕ) where
-  ones_suc : (n : ℕ) → ones_below bits (suc n) ≡ ones_below bits n ++ cond (eqb (bit bits n) 1) (n ∷ []) []
-  ones_suc n =
-      ap (filter (λ m. eqb (bit bits m) 1)) (counting_push 0 n ∙ ap (λ x. range_with_len 0 n ++ x ∷ []) (omega arith))
-      ∙ filter-append (λ m. eqb (bit bits m) 1) (range_with_len 0 n) (n ∷ [])
+  ones_more : (n : ℕ) → ones_below bits (n + 1) ≡ ones_below bits n ++ cond (eqb (bit bits n) 1) (n ∷ []) []
+  ones_more n = simp map-id at (filter_of_map_range_with_len_more (λ m. eqb (bit bits m) 1) (λ m. m) 0 n n (omega arith))
 
   -- The 1-minterms below a number, with that number where it is one.
   pub ones_yes : (n : ℕ) → bit bits n ≡ 1 → ones_below bits (n + 1) ≡ ones_below bits n ++ n ∷ []
   ones_yes n one =
-      ap (ones_below bits) (add-one n) ∙ ones_suc n
-      ∙ ap (λ xs. ones_below bits n ++ xs) (cond-true (eqb (bit bits n) 1) (n ∷ []) [] (eq-eqb _ 1 one))
+      ones_more n ∙ ap (λ xs. ones_below bits n ++ xs) (cond-true (eqb (bit bits n) 1) (n ∷ []) [] (eq-eqb _ 1 one))
 
   pub ones_no : (n : ℕ) → eqb (bit bits n) 1 ≡ false → ones_below bits (n + 1) ≡ ones_below bits n
   ones_no n none =
-      ap (ones_below bits) (add-one n) ∙ ones_suc n
+      ones_more n
       ∙ ap (λ xs. ones_below bits n ++ xs) (cond-false (eqb (bit bits n) 1) (n ∷ []) [] none)
       ∙ append-nil (ones_below bits n)
+
+  next : (n : ℕ) → ones_below bits (suc n) ≡ ones_below bits (n + 1)
+  next n = ap (ones_below bits) (sym (add-one n))
 
   ones_are : (n : ℕ) → AllByRecursion (λ m. (m < n) × (bit bits m ≡ 1)) (ones_below bits n)
   ones_are zero = tt
   ones_are (suc n) =
       let before = All-weaker (λ m. (m < n) × (bit bits m ≡ 1)) (λ m. (m < suc n) × (bit bits m ≡ 1)) (λ m p. (omega (arith, p.0), p.1)) (ones_below bits n) (ones_are n) in
       ⊎_elim
-      (λ one. subst (AllByRecursion (λ m. (m < suc n) × (bit bits m ≡ 1))) (sym (ap (ones_below bits) (sym (add-one n)) ∙ ones_yes n one)) (All-append _ (ones_below bits n) (n ∷ []) before ((omega arith, one), tt)))
-      (λ not. subst (AllByRecursion (λ m. (m < suc n) × (bit bits m ≡ 1))) (sym (ap (ones_below bits) (sym (add-one n)) ∙ ones_no n (ne_eqb _ 1 not))) before)
+      (λ one. subst (AllByRecursion (λ m. (m < suc n) × (bit bits m ≡ 1))) (sym (next n ∙ ones_yes n one)) (All-append _ (ones_below bits n) (n ∷ []) before ((omega arith, one), tt)))
+      (λ not. subst (AllByRecursion (λ m. (m < suc n) × (bit bits m ≡ 1))) (sym (next n ∙ ones_no n (ne_eqb _ 1 not))) before)
       (cases_eq (bit bits n) 1)
 
   ones_have : (n m : ℕ) → m < n → bit bits m ≡ 1 → ContainsAt (ones_below bits n) m
   ones_have zero m h one = absurd (omega arith)
   ones_have (suc n) m h one =
       ⊎_elim
-      (λ same. subst (λ xs. ContainsAt xs m) (sym (ap (ones_below bits) (sym (add-one n)) ∙ ones_yes n (subst (λ k. bit bits k ≡ 1) same one))) (subst (λ k. ContainsAt (ones_below bits n ++ n ∷ []) k) (sym same) (has_push (ones_below bits n) n)))
-      (λ other. subst (λ xs. ContainsAt xs m) (sym (ones_suc n)) (has_append_left (ones_below bits n) _ m (ones_have n m (omega arith) one)))
+      (λ same. subst (λ xs. ContainsAt xs m) (sym (next n ∙ ones_yes n (subst (λ k. bit bits k ≡ 1) same one))) (subst (λ k. ContainsAt (ones_below bits n ++ n ∷ []) k) (sym same) (has_push (ones_below bits n) n)))
+      (λ other. subst (λ xs. ContainsAt xs m) (sym (next n ∙ ones_more n)) (has_append_left (ones_below bits n) _ m (ones_have n m (omega arith) one)))
       (cases_eq m n)
 
 has_map : {X Y : Type 0} (f : X → Y) (xs : List X) (x : X) → ContainsAt xs x → ContainsAt (map f xs) (f x)
