@@ -15,6 +15,7 @@ pub enum Edit {
     Gate {
         signal: u32,
         pins: u32,
+        // all four, of which the first `pins` count: rows of pins are copied whole
         nets: [u32; 4],
         table: u32,
     },
