@@ -1,10 +1,10 @@
 -- Names, by number: a list that only grows.
 use Rattle.std.specs.Prelude.{◌≡◌, ℕ, suc, ◌<◌, Bool, false, cond, List, [], ◌∷◌, ◌++◌, map, length, is_some, Some, None, vec_items, Option, Vec, nat_lt, slice_index_or}
+use Rattle.std.specs.List.{list_all}
 use Rattle.std.specs.Str.{bytes_eq as same_text}
 use Rattle.std.specs.Option.{option_map}
 use Rattle.std.specs.declared.alloc.Global.{Global}
 use Rattle.text.specs.declared.words.Word.{Word}
-use Rattle.text.specs.Rules.{every}
 
 -- the number of a name: the place where it stands first
 abbrev pub position : List (List ℕ) → List ℕ → Option ℕ
@@ -40,7 +40,7 @@ below m (Some i) = nat_lt i m
 
 -- each name of the line has a number below m once all are entered
 abbrev pub fits : ℕ → List (List ℕ) → List (List ℕ) → Bool
-fits m ns ws = every (λ w. below m (position (entered ns ws) w)) ws
+fits m ns ws = list_all (λ w. below m (position (entered ns ws) w)) ws
 
 -- the bytes of the words of a line
 abbrev pub spellings : List Word → List (List ℕ)

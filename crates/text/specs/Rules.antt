@@ -27,12 +27,3 @@ word_byte b = nat_le 33 b && (nat_le b 126 && (not (b == 44) && (not (b == 61) &
 
 abbrev pub allowed : Rules → ℕ → Bool
 allowed k b = separates k b || word_byte b
-
-abbrev pub every : {X : Type 0} → (X → Bool) → List X → Bool
-every p [] = true
-every p (x ∷ xs) = p x && every p xs
-
--- how many bytes stand before the first that passes p: all where none does
-abbrev pub upto : (ℕ → Bool) → List ℕ → ℕ
-upto p [] = 0
-upto p (b ∷ bs) = cond (p b) 0 (upto p bs + 1)
