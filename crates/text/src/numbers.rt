@@ -4,6 +4,9 @@ ghost use Rattle.std.specs.List.{list_all};
 ghost use Rattle.text.specs.Decimal.{is_digit_lem, is_numeral_lem, value};
 ghost use Rattle.text.specs.Numbers.{number_fault};
 
+use std::error::Error;
+use std::fmt;
+
 // The most digits that a number may have.
 const MOST_DIGITS: usize = 5;
 
@@ -22,6 +25,19 @@ impl NumberFault {
         }
     }
 }
+
+impl fmt::Display for NumberFault {
+    ghost use Rattle.std.specs.Prelude.{Some};
+    ghost use Rattle.text.specs.Printed.{number_fault_text};
+
+    ghost output = { λ f. Some (number_fault_text f) };
+
+    fn fmt<W: fmt::Write>(&self, f: &mut fmt::Formatter<W>) -> fmt::Result {
+        write!(f, "fault {}", self.number())
+    }
+}
+
+impl Error for NumberFault {}
 
 fn is_digit(b: u8) -> bool
     ensures { result ≡ is_digit_lem b }
