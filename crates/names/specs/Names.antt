@@ -11,14 +11,9 @@ abbrev pub position : List (List ℕ) → List ℕ → Option ℕ
 position [] q = None
 position (n ∷ ns) q = cond (same_text q n) (Some 0) (option_map suc (position ns q))
 
--- a number or none, as one number: equal answers have equal codes
-abbrev pub coded : Option ℕ → ℕ
-coded None = 0
-coded (Some i) = suc i
-
 -- each name's number is its place, so that no name stands twice
 abbrev pub Apart : List (List ℕ) → Type 0
-Apart ns = (i : ℕ) → i < length ns → coded (position ns (slice_index_or ns i [])) ≡ coded (Some i)
+Apart ns = (i : ℕ) → i < length ns → position ns (slice_index_or ns i []) ≡ Some i
 
 -- what has a number keeps it
 abbrev pub Stays : List (List ℕ) → List (List ℕ) → Type 0

@@ -4,6 +4,8 @@ ghost use Rattle.names.specs.Numbers.{name_fault};
 ghost use Rattle.names.specs.declared.faults.NameFault.TheVariants.{Memory};
 
 use std::alloc::{AllocError, AllocFailed};
+use std::error::Error;
+use std::fmt;
 
 #[derive(Clone, Copy, PartialEq, Eq, Debug)]
 pub enum NameFault {
@@ -23,6 +25,22 @@ impl NameFault {
         }
     }
 }
+
+impl fmt::Display for NameFault {
+    ghost use Rattle.std.specs.Prelude.{Some};
+    ghost use Rattle.names.specs.Numbers.{name_fault_text};
+
+    ghost output = { λ f. Some (name_fault_text f) };
+
+    fn fmt<W: fmt::Write>(&self, f: &mut fmt::Formatter<W>) -> fmt::Result {
+        match self.number() {
+            Some(number) => write!(f, "fault {number}"),
+            None => f.write_str("no memory"),
+        }
+    }
+}
+
+impl Error for NameFault {}
 
 impl From<AllocError> for NameFault {
     ghost from_gives = { λ _ r. r ≡ Memory };
