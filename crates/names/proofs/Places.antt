@@ -50,14 +50,14 @@ some_or_none (Some i) = inr (i, refl)
 
 -- a number lies within the list
 pub position_within : (ns : List (List ℕ)) (q : List ℕ) (i : ℕ) → position ns q ≡ Some i → i < length ns
-position_within [] q i e = let z : ◌≡◌ {A = ℕ} 0 1 = cc in absurd (omega arith)
+position_within [] q i e = cc
 position_within (n ∷ ns) q i e =
     ⊎_elim
     (λ t. let f : Some 0 ≡ Some i = sym (cond-true (same_text q n) (Some 0) (option_map suc (position ns q)) t) ∙ e in let g : 0 ≡ i = cc in omega arith)
     (λ t.
     let f : option_map suc (position ns q) ≡ Some i = sym (cond-false (same_text q n) (Some 0) (option_map suc (position ns q)) t) ∙ e in
     ⊎_elim
-    (λ none. let g : None ≡ Some i = sym (ap (option_map suc) none) ∙ f in let z : ◌≡◌ {A = ℕ} 0 1 = cc in absurd (omega arith))
+    (λ none. let g : None ≡ Some i = sym (ap (option_map suc) none) ∙ f in cc)
     (λ some.
     let g : Some (suc some.0) ≡ Some i = sym (ap (option_map suc) some.1) ∙ f in
     let k : suc some.0 ≡ i = cc in
@@ -120,7 +120,7 @@ number_at ns h i x lt e =
 -- the answer to a number: the name that has it, or none past the end
 pub name_numbered : (ns : List (List ℕ)) → Apart ns → (i : ℕ) (o : Option (Bor (List ℕ))) → option_map (λ x. x.now) o ≡ slice_get ns i → MatchOption o (length ns ≤ i) (λ x. position ns x.now ≡ Some i)
 name_numbered ns h i None e =
-    ⊎_elim (λ inside. let f : None ≡ Some inside.0 = e ∙ inside.2 in let z : ◌≡◌ {A = ℕ} 0 1 = cc in absurd (omega arith)) (λ past. past.0) (slice_get_cases ns i).1
+    ⊎_elim (λ inside. let f : None ≡ Some inside.0 = e ∙ inside.2 in cc) (λ past. past.0) (slice_get_cases ns i).1
 name_numbered ns h i (Some x) e = number_at ns h i x.now (slice_get_within ns i x.now (sym e)) (sym e)
 
 -- ---- one name added

@@ -1,11 +1,11 @@
 -- A line is cut at its separators, part by part.
-use Rattle.std.proofs.Common.{◌≡◌, ℕ, suc, ◌+◌, ◌-◌, ◌<◌, ◌≤◌, cond, ◌⊎◌, List, [], ◌∷◌, length, take, drop, filter, Some, None, Option, MatchOption, ap, sym, refl, ◌∙◌, ⊎_elim, add-one, arith}
+use Rattle.std.proofs.Common.{◌≡◌, ℕ, suc, ◌+◌, ◌<◌, ◌≤◌, cond, ◌⊎◌, List, [], ◌∷◌, length, take, drop, filter, Some, None, Option, MatchOption, ap, sym, refl, ◌∙◌, ⊎_elim, add-one, arith}
 use denote.Ref.{Bor}
 use Rattle.std.specs.List.{position_or_len, slice_range}
 use Rattle.std.proofs.lemmas.List.{take_all, take_rest}
 use Rattle.std.proofs.lemmas.Bool.{cond-true, cond-false, cases_Bool}
 use Rattle.text.specs.Rules.{Rules, separates}
-use Rattle.text.specs.Words.{Part, part, onto, parts, is_word_lem, left_words}
+use Rattle.text.specs.Words.{part, onto, parts, is_word_lem, left_words}
 use Rattle.text.proofs.Marks.{mark_here, mark_later}
 
 module _ (k : Rules) (n : ℕ) where

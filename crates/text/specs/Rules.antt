@@ -1,5 +1,5 @@
 -- Bytes and what parts them.
-use Rattle.std.specs.Prelude.{ℕ, ◌+◌, Bool, true, false, cond, not, ◌&&◌, ◌||◌, List, [], ◌∷◌, ◌==◌, nat_le}
+use Rattle.std.specs.Prelude.{ℕ, Bool, true, false, not, ◌&&◌, ◌||◌, ◌==◌, nat_le}
 
 -- what a kind of text says of its words: the two bytes that part them, and whether a run of those counts as one
 pub record Rules : Type 0 where

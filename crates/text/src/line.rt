@@ -22,7 +22,7 @@ const LONGEST: usize = 32;
 fn is_word_byte(b: u8) -> bool
     ensures { result ≡ word_byte b }
 {
-    33 <= b && b <= 126 && b != b',' && b != b'=' && b != b'\\'
+    matches!(b, 33..=126) && !matches!(b, b',' | b'=' | b'\\')
 }
 
 fn is_allowed<T: Text>(b: u8) -> bool

@@ -39,16 +39,10 @@ impl fmt::Display for NumberFault {
 
 impl Error for NumberFault {}
 
-fn is_digit(b: u8) -> bool
-    ensures { result ≡ is_digit_lem b }
-{
-    b'0' <= b && b <= b'9'
-}
-
 fn all_digits(bytes: &[u8]) -> bool
     ensures { result ≡ list_all is_digit_lem bytes.now }
 {
-    bytes.iter().all(|b| is_digit(*b))
+    bytes.iter().all(|b| b.is_ascii_digit())
 }
 
 fn is_numeral(bytes: &[u8]) -> bool
