@@ -50,6 +50,7 @@ impl From<AllocError> for NameFault {
     }
 }
 
+// Beside AllocError, since a map's `insert` hands back what it could not store, and `?` reads no bound here that covers both.
 impl<T: Drop> From<AllocFailed<T>> for NameFault {
     ghost from_gives = { λ _ r. r ≡ Memory };
 

@@ -6,7 +6,7 @@ ghost use Rattle.text.specs.Rules.{marked, separates};
 ghost use Rattle.text.specs.Words.{is_word_lem, words, left_words};
 
 use crate::kinds::Text;
-use crate::spot::Spot;
+use crate::spot::{RawLine, Spot};
 use crate::words::Word;
 use std::marker::PhantomData;
 
@@ -52,13 +52,16 @@ pub(crate) struct Words<'a, T> {
 
 impl<'a, T: Text> Words<'a, T> {
     // A line without bytes has no part.
-    pub(crate) fn new(line: &'a [u8], at: Spot) -> Words<'a, T>
-        requires { at.place + length line.now + 1 < 2 ^ 64 }
-        ensures { left_words T.Text.rules result.at.line result.at.place result.rest ≡ words T.Text.rules at.line at.place line.now }
+    pub(crate) fn new(line: RawLine<'a>) -> Words<'a, T>
+        ensures { left_words T.Text.rules result.at.line result.at.place result.rest ≡ words T.Text.rules line.entry.at.line line.entry.at.place line.entry.bytes.now }
     {
         Words {
-            rest: if line.is_empty() { None } else { Some(line) },
-            at,
+            rest: if line.bytes.is_empty() {
+                None
+            } else {
+                Some(line.bytes)
+            },
+            at: line.at,
             kind: PhantomData,
         }
     }

@@ -100,6 +100,7 @@ impl From<AllocError> for ReadFault {
     }
 }
 
+// Beside AllocError, since a vector's `push` hands back what it could not store, and `?` reads no bound here that covers both.
 impl<T: Drop> From<AllocFailed<T>> for ReadFault {
     ghost from_gives = { λ _ r. r ≡ Memory };
 

@@ -1,5 +1,5 @@
 // One line: whether its bytes and words serve.
-ghost use Rattle.std.specs.Prelude.{◌≡◌, ◌+◌, ◌^◌, ◌<◌, ◌≤◌, map, length, MatchResult};
+ghost use Rattle.std.specs.Prelude.{◌≡◌, ◌<◌, map, length, MatchResult};
 ghost use Rattle.std.specs.List.{list_all};
 ghost use Rattle.std.specs.Result.{result_err};
 ghost use Rattle.text.specs.Rules.{word_byte, allowed};
@@ -9,7 +9,7 @@ ghost use Rattle.text.specs.Lines.{shown, judged, first_wrong, Found};
 use crate::cut::{Words, is_separator, length_before};
 use crate::faults::{LineFault, ReadFault, TextFault};
 use crate::kinds::Text;
-use crate::spot::Spot;
+use crate::spot::RawLine;
 use crate::words::Word;
 use std::alloc::{AllocError, Global};
 
@@ -44,60 +44,58 @@ fn has_right_length(bytes: &[u8]) -> bool
 }
 
 // Whether each word of a line has a right length.
-fn all_fit<T: Text>(line: &[u8], at: Spot) -> bool
-    requires { at.place + length line.now + 1 < 2 ^ 64 }
-    ensures { result ≡ list_all (λ p. fits p.bytes) (words T.Text.rules at.line at.place line.now) }
+fn all_fit<T: Text>(line: RawLine) -> bool
+    ensures { result ≡ list_all (λ p. fits p.bytes) (words T.Text.rules line.entry.at.line line.entry.at.place line.entry.bytes.now) }
 {
-    Words::<T>::new(line, at).all(|word| has_right_length(word.bytes))
+    Words::<T>::new(line).all(|word| has_right_length(word.bytes))
 }
 
 // A wrong byte anywhere in a line comes before a wrong word.
-fn check<T: Text>(line: &[u8], at: Spot) -> Result<(), TextFault>
-    requires { at.place + length line.now + 1 < 2 ^ 64 }
-    ensures { result_err result ≡ first_wrong (list_all (allowed T.Text.rules) line.now) (list_all (λ p. fits p.bytes) (words T.Text.rules at.line at.place line.now)) }
+fn check<T: Text>(line: RawLine) -> Result<(), TextFault>
+    ensures { result_err result ≡ first_wrong (list_all (allowed T.Text.rules) line.entry.bytes.now) (list_all (λ p. fits p.bytes) (words T.Text.rules line.entry.at.line line.entry.at.place line.entry.bytes.now)) }
 {
-    if !all_allowed::<T>(line) {
+    if !all_allowed::<T>(line.bytes) {
         return Err(TextFault::WrongByte);
     }
-    if !all_fit::<T>(line, at) {
+    if !all_fit::<T>(line) {
         return Err(TextFault::WrongWord);
     }
     Ok(())
 }
 
 // Memory can fail only where there is a word.
-fn split<'a, T: Text>(heap: Global, line: &'a [u8], at: Spot) -> Result<Vec<Word<'a>>, AllocError>
-    requires { at.place + length line.now + 1 < 2 ^ 64 }
-    ensures { MatchResult result (λ v. map spelled v.items ≡ words T.Text.rules at.line at.place line.now) (λ _. 0 < length (words T.Text.rules at.line at.place line.now)) }
+fn split<'a, T: Text>(heap: Global, line: RawLine<'a>) -> Result<Vec<Word<'a>>, AllocError>
+    ensures { MatchResult result (λ v. map spelled v.items ≡ words T.Text.rules line.entry.at.line line.entry.at.place line.entry.bytes.now) (λ _. 0 < length (words T.Text.rules line.entry.at.line line.entry.at.place line.entry.bytes.now)) }
 {
     let mut words = Vec::new(heap);
-    for word in Words::<T>::new(line, at) {
+    for word in Words::<T>::new(line) {
         words.push(word)?;
     }
     Ok(words)
 }
 
 // What a comment leaves of a line.
-fn without_comment(line: &[u8]) -> &[u8]
-    ensures value { result.now ≡ shown line.now }
-    ensures len { length result.now ≤ length line.now }
+fn without_comment(line: RawLine) -> RawLine
+    ensures value { result.bytes.now ≡ shown line.entry.bytes.now }
+    ensures at { (result.at.place ≡ line.entry.at.place) × (result.at.line ≡ line.entry.at.line) }
 {
-    &line[..length_before(line, [COMMENT, COMMENT])]
+    RawLine {
+        bytes: &line.bytes[..length_before(line.bytes, [COMMENT, COMMENT])],
+        at: line.at,
+    }
 }
 
-// The words of one line that begins at `at`, or what is wrong with it.
+// The words of a line, or what is wrong with it.
 pub(crate) fn words_of<'a, T: Text>(
     heap: Global,
-    line: &'a [u8],
-    at: Spot,
+    line: RawLine<'a>,
 ) -> Result<Vec<Word<'a>>, ReadFault>
-    requires { at.place + length line.now + 1 < 2 ^ 64 }
-    ensures { Found (judged T.Text.rules at.line at.place line.now) at.line result }
+    ensures { Found (judged T.Text.rules line.entry.at.line line.entry.at.place line.entry.bytes.now) line.entry.at.line result }
 {
     let shown = without_comment(line);
-    check::<T>(shown, at).map_err(|fault| LineFault {
+    check::<T>(shown).map_err(|fault| LineFault {
         fault,
-        line: at.line,
+        line: line.at.line,
     })?;
-    Ok(split::<T>(heap, shown, at)?)
+    Ok(split::<T>(heap, shown)?)
 }

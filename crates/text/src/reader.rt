@@ -7,7 +7,7 @@ use crate::cut::length_before;
 use crate::faults::{LineFault, ReadFault, TextFault};
 use crate::kinds::Text;
 use crate::line::words_of;
-use crate::spot::Spot;
+use crate::spot::{RawLine, Spot};
 use crate::words::Line;
 use std::alloc::Global;
 use std::marker::PhantomData;
@@ -92,7 +92,11 @@ fn next_from<'a, T: Text>(
         let start = *at;
         let after = &text[start.place..];
         let length = length_before(after, [NEWLINE, NEWLINE]);
-        let words = words_of::<T>(heap, &after[..length], start)?;
+        let line = RawLine {
+            bytes: &after[..length],
+            at: start,
+        };
+        let words = words_of::<T>(heap, line)?;
         *at = start.next_line((length + 1).min(after.len()));
         if !words.is_empty() {
             return Ok(Some(Line {

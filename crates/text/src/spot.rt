@@ -1,5 +1,5 @@
-// Where a byte stands in a text.
-ghost use Rattle.std.specs.Prelude.{◌≡◌, ◌+◌, ◌^◌, ◌<◌, ◌≤◌};
+// Where a byte stands in a text, and a line as it stands there.
+ghost use Rattle.std.specs.Prelude.{◌≡◌, ◌+◌, ◌^◌, ◌<◌, length};
 
 // The place of a byte in its text, and the number of its line.
 #[derive(Clone, Copy)]
@@ -31,4 +31,12 @@ impl Spot {
             line: self.line + 1,
         }
     }
+}
+
+// The bytes of a line, and where it begins.
+#[derive(Clone, Copy)]
+pub(crate) struct RawLine<'a> {
+    pub(crate) bytes: &'a [u8],
+    pub(crate) at: Spot,
+    ghost fits: { at.place + length bytes.now + 1 < 2 ^ 64 },
 }
