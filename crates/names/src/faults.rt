@@ -50,7 +50,7 @@ impl From<AllocError> for NameFault {
     }
 }
 
-// Beside AllocError, since a map's `insert` hands back what it could not store, and `?` reads no bound here that covers both.
+// Apart from that of AllocError: `insert` hands back what it could not store, in an error of its own.
 impl<T: Drop> From<AllocFailed<T>> for NameFault {
     ghost from_gives = { λ _ r. r ≡ Memory };
 

@@ -100,7 +100,7 @@ impl From<AllocError> for ReadFault {
     }
 }
 
-// Beside AllocError, since a vector's `push` hands back what it could not store, and `?` reads no bound here that covers both.
+// Apart from that of AllocError: `push` hands back what it could not store, in an error of its own.
 impl<T: Drop> From<AllocFailed<T>> for ReadFault {
     ghost from_gives = { λ _ r. r ≡ Memory };
 
