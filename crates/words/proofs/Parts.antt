@@ -1,5 +1,5 @@
 -- What the calls of the snapshot make of its memory: the image, the parts for the levels, and what lies behind them.
-use Rattle.std.proofs.Common.{◌≡◌, ℕ, zero, suc, ◌+◌, ◌-◌, ◌*◌, ◌/◌, ◌<◌, ◌≤◌, List, ◌∷◌, ◌++◌, length, take, drop, sym, refl, ap, ◌∙◌, mul-le-mul_right, mul_comm, add-mul, one-mul, le-div_iff_mul-le, div-mul-le_self, arith}
+use Rattle.std.proofs.Common.{◌≡◌, ℕ, zero, suc, ◌+◌, ◌-◌, ◌*◌, ◌/◌, ◌<◌, ◌≤◌, List, ◌∷◌, ◌++◌, length, take, drop, sym, refl, ap, ◌∙◌, mul-le-mul_right, add-mul, one-mul, le-div_iff_mul-le, div-mul-le_self, arith}
 use native.Mathlib.Nat.{min-eq_left, min-le_right}
 use lib.Seq.{paste}
 use Rattle.std.proofs.lemmas.List.{append_assoc, length-append, length-take-le, take_at, take-append-le, take-take, drop_at, drop-drop, drop-take}
@@ -60,11 +60,6 @@ pub width_room : (long n d : ℕ) → width long n d * (d + 1) ≤ long
 width_room long n d =
     let less : width long n d ≤ long / (d + 1) = min-le_right n (long / (d + 1)) in
     omega (arith, mul-le-mul_right (d + 1) less, div-mul-le_self long (d + 1))
-
--- the image and the parts for k levels lie within the memory
-pub parts_room : (long n d k : ℕ) → k ≤ d → (k + 1) * width long n d ≤ long
-parts_room long n d k few =
-    omega (arith, width_room long n d, mul_comm (width long n d) (d + 1), mul-le-mul_right {m = k + 1} {n = d + 1} (width long n d) (omega arith))
 
 -- ---- the saved images
 

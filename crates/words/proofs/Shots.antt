@@ -70,22 +70,11 @@ module _ (ws : List ℕ) (n d : ℕ) where
       let same : width (length ws') n d ≡ wide = ap (λ l. width l n d) long in
       λ i. record { lender = lender; behind = (ap (λ m. drop (m * (d + 1)) ws') same ∙ behind) i }
 
-  pub wide_within : wide ≤ length ws
-  wide_within = image_within ws wide d fit
-
   pub sets : (k at w : ℕ) → at < wide → Sets (snapshot_meaning ws n d k) (snapshot_meaning (set ws at w) n d k) at w (Ok tt)
   sets k at w below = (
     omega (arith, image-size ws wide d fit),
     shot_is (set ws at w) n d k wide (min k d) (ap (λ l. width l n d) (length-set ws at w)) refl ∙ set-image ws wide d fit (min k d) at w below,
   )
-
-  pub sets_lent : (lender at w : ℕ) → at < wide → snapshot_lent lender (set ws at w) n d ≡ snapshot_lent lender ws n d
-  sets_lent lender at w below =
-      let before : at < wide * (d + 1) = omega (arith, behind-image d wide, mul_comm wide (d + 1)) in
-      lent_same lender (set ws at w) (length-set ws at w) (drop-set-lt (wide * (d + 1)) ws at w before)
-
-  pub saves_room : (k : ℕ) → k < d → (k + 2) * wide ≤ length ws
-  saves_room k below = omega (arith, next-part k wide, level_within ws wide d fit k below)
 
   pub opens : (ws' : List ℕ) (k : ℕ) → k < d → ws' ≡ paste ws ((k + 1) * wide) ws wide → Opens (snapshot_meaning ws n d k) (snapshot_meaning ws' n d (k + 1)) (Ok tt)
   opens ws' k below copied =
@@ -112,9 +101,6 @@ module _ (ws : List ℕ) (n d : ℕ) where
         omega (arith, length-parts ws wide (min k d)),
         same_meaning refl refl (ap (parts ws wide) few ∙ ap (λ j. drop 1 (parts ws wide j)) (sym some)),
       )
-
-  pub keeps_none : (k : ℕ) → min k d ≡ 0 → levels (snapshot_meaning ws n d k) ≡ 0
-  keeps_none k none = length-parts ws wide (min k d) ∙ none
 
   pub drops : (ws' : List ℕ) (k k' : ℕ) → min k d ≡ suc k' → ws' ≡ paste ws 0 (drop ((k' + 1) * wide) ws) wide
       → Drops (snapshot_meaning ws n d k) (snapshot_meaning ws' n d k') (Ok tt)

@@ -1,28 +1,12 @@
 -- The turns of the loops that take a level's notes back, and that hand them to the level below.
-use Rattle.std.proofs.Common.{◌≡◌, ℕ, ◌+◌, ◌*◌, ◌<◌, ◌≢◌, List, length, get_or, take, drop, set, sym, refl, ap, ◌∙◌, subst, zero-add, zero-mul, add-one, arith}
+use Rattle.std.proofs.Common.{◌≡◌, ℕ, ◌+◌, ◌*◌, ◌<◌, ◌≢◌, List, length, get_or, take, drop, set, sym, ap, ◌∙◌, subst, add-one, arith}
 use lib.Seq.{take-set-lt}
 use Rattle.std.proofs.lemmas.List.{drop-set-lt}
 use Rattle.words.specs.declared.inverse_log.InverseLog.{InverseLog}
 use Rattle.words.specs.InverseLog.{word_at, value_at, undo, Notes}
-use Rattle.words.proofs.Blocks.{cell_within, cell-rest}
-use Rattle.words.proofs.Noting.{Sound, Owed, owed, sound_of, sound_set}
-
--- ---- a note that is read
-
--- the number of a block, and that the code's place in it is one of the memory
-pub note_within : (log : InverseLog) (b level i x : ℕ) → level < length log.noted.items → i < get_or log.noted.items level 0 → b < 3 * level + 3
-    → x ≡ b * log.shape.size + i → x < length log.words.now
-note_within log b level i x used noted few is =
-    let short = log.counted level used in
-    rw is (cell_within log.shape.size log.shape.limit b i (length log.words.now) log.room (omega (arith, log.shallow)) (omega arith))
+use Rattle.words.proofs.Blocks.{cell-rest}
 
 -- ---- taking back
-
-owed_image : (ws : List ℕ) (n d k : ℕ) (noted : List ℕ) (w v : ℕ) → w < n → Sound ws n d k noted → Owed (set ws w v) n d k noted
-owed_image ws n d k noted w v below s =
-    let here : 0 * n + w ≡ w = ap (λ m. m + w) (zero-mul n) ∙ zero-add w in
-    subst (λ at. Owed (set ws at v) n d k noted) here
-    (owed _ n d k noted (sound_set ws n d k noted s 0 w v below (λ level i h e _. omega arith) (λ level i h e _. omega arith)))
 
 module _ (log : InverseLog) (level i x y : ℕ) (used : level < length log.noted.items) (noted : i < get_or log.noted.items level 0)
     (x-is : x ≡ (3 * level + 1) * log.shape.size + i) (y-is : y ≡ (3 * level + 2) * log.shape.size + i) where
@@ -37,9 +21,6 @@ module _ (log : InverseLog) (level i x y : ℕ) (used : level < length log.noted
 
   pub word_below : get_or memory x 0 < log.shape.size
   word_below = rw word_is (log.within level i (used, noted))
-
-  pub owed_taken : Owed (set memory (get_or memory x 0) (get_or memory y 0)) log.shape.size log.shape.limit (length log.noted.items) log.noted.items
-  owed_taken = owed_image memory log.shape.size log.shape.limit (length log.noted.items) log.noted.items (get_or memory x 0) (get_or memory y 0) word_below (sound_of log)
 
   pub rest_taken : (n : ℕ) (ws : List ℕ) → log.shape.size ≡ n → drop n memory ≡ drop n ws → drop n (set memory (get_or memory x 0) (get_or memory y 0)) ≡ drop n ws
   rest_taken n ws size rest = drop-set-lt n memory (get_or memory x 0) (get_or memory y 0) (subst (λ m. get_or memory x 0 < m) size word_below) ∙ rest
@@ -80,10 +61,6 @@ notes_then n d level first second ws noted ws' noted' ws'' noted'' h g =
       depth = g.depth ∙ h.depth;
       counts = λ other ne. g.counts other ne ∙ h.counts other ne;
     }
-
-pub notes_none : (n d below level : ℕ) (ws noted : List ℕ) → Notes n d below (undo ws n level 0) ws noted ws noted
-notes_none n d below level ws noted =
-    record { image = refl; behind = refl; undone = λ image. refl; words = λ _ _ _ _. refl; values = λ _ _ _ _. refl; depth = refl; counts = λ _ _. refl }
 
 pub handed_more : (n d n' d' below level i w v : ℕ) (ws noted ws' noted' ws'' noted'' : List ℕ) → n' ≡ n → d' ≡ d → level ≢ below → i < n
     → w ≡ word_at ws' n level i → v ≡ value_at ws' n level i → Notes n d below (undo ws n level i) ws noted ws' noted'

@@ -1,8 +1,7 @@
 use Rattle.std.proofs.Common.{◌≡◌, suc, ◌-◌, length, Ok, sym, ◌∙◌, subst, arith}
 use Rattle.words.specs.Meaning.{Keeps}
 use Rattle.words.specs.InverseLog.{log_meaning, log_lent}
-use Rattle.words.proofs.Logs.{handed, keeps, lent_notes}
-use Rattle.words.proofs.Noting.{sound_of}
+use Rattle.words.proofs.Logs.{meaning_of, handed, keeps, lent_notes}
 use Rattle.words.proofs.inverse_log.InverseLog.hand_down.Goals as goal
 
 pub returns-then-level-gt0 : goal.returns-then-level-gt0
@@ -14,14 +13,12 @@ returns-then-level-gt0 c =
     let depth : length before.noted.items ≡ suc level = omega (arith, c.len-level.ensures.value) in
     let newest : length before.noted.items - 1 ≡ level = omega (arith, depth) in
     let saved =
-    handed before.words.now before.shape.size before.shape.limit (length before.noted.items) before.noted.items (sound_of before)
-    after.words.now after.noted.items level (omega arith) (omega (arith, depth)) h.notes in
+    handed before after.words.now after.noted.items level (omega arith) (omega (arith, depth)) h.notes in
     let told =
-    keeps before.words.now before.shape.size before.shape.limit (length before.noted.items) before.noted.items (sound_of before)
-    after.words.now after.noted.items level depth h.notes.image saved in
+    keeps before after.words.now after.noted.items level depth h.notes.image saved in
     record {
       keeps =
-          subst (λ m. Keeps (log_meaning before.words.now before.shape.size before.shape.limit (length before.noted.items) before.noted.items) m (Ok tt))
+          subst (λ m. Keeps (meaning_of before) m (Ok tt))
           (sym (λ i. log_meaning after.words.now (h.shape i).size (h.shape i).limit (newest i) after.noted.items)) told;
       behind =
           (λ i. log_lent after.words.ghost_name after.words.now (h.shape i).size (h.shape i).limit)

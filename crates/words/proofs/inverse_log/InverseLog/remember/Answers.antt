@@ -1,6 +1,5 @@
 use Rattle.std.proofs.Common.{◌≡◌, suc, length, refl, arith}
 use Rattle.words.proofs.Logs.{remembered, lent_notes}
-use Rattle.words.proofs.Noting.{sound_of}
 use Rattle.words.proofs.inverse_log.InverseLog.remember.Goals as goal
 
 pub returns : goal.returns
@@ -13,8 +12,7 @@ returns c =
     record {
       image = h.notes.image;
       saved =
-          remembered before.words.now before.shape.size before.shape.limit (length before.noted.items) before.noted.items (sound_of before)
-          after.words.now after.noted.items level c.args.at _ depth refl (omega arith) h.notes;
+          remembered before after.words.now after.noted.items level c.args.at _ depth refl (omega arith) h.notes;
       lent =
           lent_notes before.words.ghost_name after.words.ghost_name before.shape.size before.shape.limit level _
           before.words.now before.noted.items after.words.now after.noted.items h.lender h.notes;

@@ -2,8 +2,7 @@ use Rattle.std.proofs.Common.{◌≡◌, suc, ◌-◌, length, Ok, sym, ap, ◌�
 use Rattle.arrayvec.specs.ArrayVec.{ArrayVec}
 use Rattle.words.specs.Meaning.{Drops}
 use Rattle.words.specs.InverseLog.{log_meaning, log_lent}
-use Rattle.words.proofs.Logs.{drops, lent_rest}
-use Rattle.words.proofs.Noting.{sound_of}
+use Rattle.words.proofs.Logs.{meaning_of, drops, lent_rest}
 use Rattle.words.proofs.inverse_log.InverseLog.take_back.Goals as goal
 
 pub returns : goal.returns
@@ -14,12 +13,10 @@ returns c =
     let level = c.len-level.result - 1 in
     let depth : length before.noted.items ≡ suc level = omega (arith, c.len-level.ensures.value) in
     let newest : length before.noted.items - 1 ≡ level = omega (arith, depth) in
-    let told =
-    drops before.words.now before.shape.size before.shape.limit (length before.noted.items) before.noted.items (sound_of before)
-    after.words.now level depth h.image h.rest in
+    let told = drops before after.words.now level depth h.image h.rest in
     record {
       drops =
-          subst (λ m. Drops (log_meaning before.words.now before.shape.size before.shape.limit (length before.noted.items) before.noted.items) m (Ok tt))
+          subst (λ m. Drops (meaning_of before) m (Ok tt))
           (sym (λ i. log_meaning after.words.now (h.shape i).size (h.shape i).limit (newest i) (h.noted i).items)) told;
       behind =
           (λ i. log_lent after.words.ghost_name after.words.now (h.shape i).size (h.shape i).limit)

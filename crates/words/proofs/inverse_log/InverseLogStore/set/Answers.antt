@@ -1,8 +1,7 @@
-use Rattle.std.proofs.Common.{length, set, refl, ◌∙◌, arith}
+use Rattle.std.proofs.Common.{set, refl, ◌∙◌, arith}
 use Rattle.std.proofs.lemmas.List.{drop-set-lt}
 use Rattle.words.specs.InverseLog.{log_meaning, log_lent}
 use Rattle.words.proofs.Logs.{sets, lent_rest}
-use Rattle.words.proofs.Noting.{sound_of}
 use Rattle.words.proofs.inverse_log.InverseLogStore.set.Goals as goal
 
 pub returns : goal.returns
@@ -12,8 +11,7 @@ returns c =
     let h = c.remember.ensures in
     let ws = set after.words.now c.args.at c.args.word in
     let told =
-    sets before.words.now before.shape.size before.shape.limit (length before.noted.items) before.noted.items (sound_of before)
-    after.words.now after.noted.items c.args.at c.args.word (omega arith) h.image (h.saved c.args.word) in
+    sets before after.words.now after.noted.items c.args.at c.args.word (omega arith) h.image (h.saved c.args.word) in
     record {
       sets = (told.0, (λ i. log_meaning ws (h.shape i).size (h.shape i).limit (h.depth i) after.noted.items) ∙ told.1);
       behind =
