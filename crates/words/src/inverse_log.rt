@@ -117,6 +117,7 @@ impl InverseLog<'_> {
         ensures noted { self.new.noted ≡ self.old.noted }
         ensures lender { self.new.words.ghost_name ≡ self.old.words.ghost_name }
     {
+        // the number of a note is part of the address of its word and of its value
         for i in (0..self.noted[level]).rev() {
             let word = self.words[self.shape.cell(3 * level + 1, i)] as usize;
             let value = self.words[self.shape.cell(3 * level + 2, i)];
@@ -131,6 +132,7 @@ impl InverseLog<'_> {
         ensures shape { self.new.shape ≡ self.old.shape }
         ensures lender { self.new.words.ghost_name ≡ self.old.words.ghost_name }
     {
+        // likewise
         for i in 0..self.noted[level] {
             let word = self.words[self.shape.cell(3 * level + 1, i)] as usize;
             let value = self.words[self.shape.cell(3 * level + 2, i)];

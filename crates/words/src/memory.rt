@@ -40,7 +40,7 @@ pub(crate) fn test<'a, S: OverMemory<'a>>(
     ensures tests { Tests size limit (S.each limit) (length words.now) result }
     ensures image { OnOk result (size ≤ length words.now) }
 {
-    if size > WORDS_MOST || limit < LEVELS_LEAST || limit > LEVELS_MOST {
+    if size > WORDS_MOST || !(LEVELS_LEAST..=LEVELS_MOST).contains(&limit) {
         return Err(StoreRefusal::Unfit);
     }
     match size.checked_mul(S::each(limit)) {
@@ -78,6 +78,7 @@ pub(crate) fn word_at(words: &[u32], size: usize, at: usize) -> Option<u32>
     words[..size].get(at).copied()
 }
 
+// Writes one word. A function, since the part of a snapshot for a level is lent to it.
 pub(crate) fn put(words: &mut [u32], at: usize, word: u32)
     requires { at < length words.old }
     ensures { words.new ≡ slice_set words.old at word }

@@ -49,7 +49,7 @@ impl<'a> Snapshot<'a> {
     }
 }
 
-// Copies `size` words from one part of the memory to another.
+// Copies `size` words from one part of the memory to another: word by word, since the part that is written is lent on.
 fn copy_part(words: &mut [u32], size: usize, from: usize, to: usize)
     requires source { from + size ≤ length words.old }
     requires target { to + size ≤ length words.old }
