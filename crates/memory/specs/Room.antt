@@ -3,6 +3,12 @@ use Rattle.std.specs.Prelude.{◌≡◌, ℕ, ◌+◌, ◌*◌, ◌≤◌, min, 
 use Rattle.words.specs.Making.{fresh, cleared}
 use Rattle.words.specs.Meaning.{Meaning}
 
+-- the words that a host has, and N and D of the stores that it lends them to
+pub record Host : Type 0 where
+  pub words : List ℕ
+  pub size : ℕ
+  pub limit : ℕ
+
 -- The inverse log takes three words for each word and level, and two more for each word. The snapshot takes fewer.
 abbrev pub room : ℕ → ℕ → ℕ
 room n d = min n 65536 * (3 * min d 8 + 2)
@@ -13,7 +19,7 @@ pub record Served (n d : ℕ) : Type 0 where
   pub some_levels : 2 ≤ d
   pub few_levels : d ≤ 8
 
--- the meaning of the store that is made, and the memory that its making leaves: there is always room, so only the ranges count
-pub record Gives (n d : ℕ) (m : Meaning) (before after : List ℕ) : Type 0 where
-  pub served : Served n d → (m ≡ fresh n d) × (after ≡ cleared n before)
-  pub refused : (Served n d → ⊥) → (m ≡ fresh 0 2) × (after ≡ before)
+-- the meaning of the store that is made, and the words that its making leaves: there is always room, so only the ranges count
+pub record Gives (host : Host) (m : Meaning) (after : List ℕ) : Type 0 where
+  pub served : Served host.size host.limit → (m ≡ fresh host.size host.limit) × (after ≡ cleared host.size host.words)
+  pub refused : (Served host.size host.limit → ⊥) → (m ≡ fresh 0 2) × (after ≡ host.words)
