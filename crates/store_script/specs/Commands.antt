@@ -1,5 +1,6 @@
 -- How the commands of a store are spelled, one to a line.
 use Rattle.std.specs.Prelude.{◌≡◌, ℕ, ◌+◌, ◌-◌, ◌*◌, ◌^◌, ◌<◌, ◌≤◌, List, [], ◌∷◌, ◌++◌, length, codes}
+use Rattle.std.specs.Fmt.{decimal}
 use Rattle.store_script.specs.declared.command.Command.{Command}
 use Rattle.store_script.specs.declared.command.Command.TheVariants.{Set, Open, Keep, Drop, Show}
 
@@ -37,3 +38,11 @@ Spells line Open = line ≡ codes "open"
 Spells line Keep = line ≡ codes "keep"
 Spells line Drop = line ≡ codes "drop"
 Spells line Show = line ≡ codes "show"
+
+-- the line that a command is printed as
+abbrev pub printed : Command → List ℕ
+printed (Set at word) = codes "set " ++ (decimal at ++ (codes " " ++ decimal word))
+printed Open = codes "open"
+printed Keep = codes "keep"
+printed Drop = codes "drop"
+printed Show = codes "show"

@@ -4,5 +4,5 @@
 mod command;
 mod player;
 
-pub use command::{Command, parse};
+pub use command::{Command, decimal, parse};
 pub use player::{Both, image_of, play, play_both};

@@ -1,10 +1,9 @@
 -- What the calls of the inverse log make of its meaning.
-use Rattle.std.proofs.Common.{◌≡◌, ℕ, suc, ◌+◌, ◌-◌, ◌*◌, ◌<◌, ◌≤◌, List, ◌∷◌, length, get_or, take, drop, set, replicate, Ok, sym, refl, ap, ◌∙◌, subst, ⊎_elim, mul-le-mul_left, mul-one, add-one, arith}
+use Rattle.std.proofs.Common.{◌≡◌, ℕ, suc, ◌+◌, ◌-◌, ◌*◌, ◌<◌, ◌≤◌, List, ◌∷◌, length, get_or, take, drop, set, Ok, sym, refl, ap, ◌∙◌, subst, ⊎_elim, mul-le-mul_left, mul-one, add-one, arith}
 use lib.Seq.{take-set-lt}
-use Rattle.std.proofs.lemmas.List.{get_or-take, get_or-set_same, get_or-set_other, length-take-le, length-replicate, set-set, set-get_or, take_at, drop-set-lt, drop-drop}
+use Rattle.std.proofs.lemmas.List.{get_or-take, get_or-set_same, get_or-set_other, length-take-le, set-set, set-get_or, drop-set-lt, drop-drop}
 use Rattle.std.proofs.lemmas.Bool.{cases_eq}
 use Rattle.words.specs.Meaning.{Sets, Opens, Keeps, Drops, levels, newest}
-use Rattle.words.specs.Making.{fresh, cleared}
 use Rattle.words.specs.InverseLog.{undo, pile, log_meaning, log_lent, NoteAt, Notes}
 use Rattle.words.proofs.Blocks.{cell-rest}
 use Rattle.words.proofs.Noting.{Sound, Owed, owed}
@@ -169,8 +168,3 @@ owed_fewer ws n d k level noted less s =
       within = λ other i h. s.within other i (omega (arith, h.0), h.1);
       placed = λ other i h. s.placed other i (omega (arith, h.0), h.1);
     })
-
--- ---- the making
-
-pub makes : (n d : ℕ) (ws ws' noted : List ℕ) → ws' ≡ cleared n ws → log_meaning ws' n d 0 noted ≡ fresh n d
-makes n d ws ws' noted made = same_meaning refl (ap (take n) made ∙ take_at (replicate n 0) (drop n ws) n (length-replicate n 0)) refl

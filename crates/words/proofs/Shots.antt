@@ -1,11 +1,11 @@
 -- What the calls of the snapshot make of its meaning.
-use Rattle.std.proofs.Common.{◌≡◌, ℕ, suc, ◌+◌, ◌*◌, ◌<◌, ◌≤◌, min, List, ◌∷◌, length, take, drop, set, replicate, Ok, sym, refl, ap, ◌∙◌, mul-le-mul_right, mul_comm, one-mul, add-one, arith}
+use Rattle.std.proofs.Common.{◌≡◌, ℕ, suc, ◌+◌, ◌*◌, ◌<◌, ◌≤◌, min, List, ◌∷◌, length, take, drop, set, Ok, sym, refl, ap, ◌∙◌, mul-le-mul_right, mul_comm, one-mul, add-one, arith}
 use native.Mathlib.Nat.{zero-min, min-eq_left, min-eq_right, min-le_right}
 use lib.Seq.{paste, take-set-lt}
-use Rattle.std.proofs.lemmas.List.{length-take-le, length-replicate, length-append, length-drop, length-set, take_at, drop-set-lt}
+use Rattle.std.proofs.lemmas.List.{length-take-le, length-drop, length-set, drop-set-lt}
 use Rattle.std.proofs.lemmas.List.Edits.{length-paste}
 use Rattle.words.specs.Meaning.{Meaning, Sets, Opens, Keeps, Drops, wrote, opened, dropped, levels, size}
-use Rattle.words.specs.Making.{Fits, fresh, cleared}
+use Rattle.words.specs.Making.{Fits, laid}
 use Rattle.words.specs.Snapshot.{part, parts, width, snapshot_meaning, snapshot_lent}
 use Rattle.words.proofs.Images.{same_meaning}
 use Rattle.words.proofs.Parts.{take-before, part-before, part_within, drop-behind, parts_apart, behind-image, next-part, add_two, width_fits, width_room, parts_same, length-parts}
@@ -141,9 +141,5 @@ module _ (ws : List ℕ) (n d : ℕ) where
 
 -- ---- the making
 
-pub makes : (n d : ℕ) (ws ws' : List ℕ) → Fits n d (d + 1) (length ws) → ws' ≡ cleared n ws → snapshot_meaning ws' n d 0 ≡ fresh n d
-makes n d ws ws' fits made =
-    let short : n ≤ length ws = image_within ws n d fits.room in
-    let long : length ws' ≡ length ws = ap length made ∙ length-append (replicate n 0) (drop n ws) ∙ simp (length-replicate, length-drop) (omega arith) in
-    shot_is ws' n d 0 n 0 (width_fits (length ws') n d (omega (arith, fits.room))) (zero-min d)
-    ∙ same_meaning refl (ap (take n) made ∙ take_at (replicate n 0) (drop n ws) n (length-replicate n 0)) refl
+pub laid-shot : (n d : ℕ) (ws : List ℕ) → Fits n d (d + 1) (length ws) → snapshot_meaning ws n d 0 ≡ laid n d ws
+laid-shot n d ws fits = shot_is ws n d 0 n 0 (width_fits (length ws) n d fits.room) (zero-min d)

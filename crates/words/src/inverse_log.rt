@@ -7,7 +7,7 @@ ghost use Rattle.words.specs.Meaning.{Keeps, Drops};
 ghost use Rattle.words.specs.InverseLog.{log_meaning, log_lent, undo, pile, Within, Placed, HasNoted, Notes};
 
 use crate::memory;
-use crate::memory::LEVELS_MOST;
+use crate::memory::OverMemory;
 use crate::store::{Store, StoreRefusal};
 
 #[derive(Drop)]
@@ -40,10 +40,7 @@ impl<'a> InverseLog<'a> {
     pub fn test(words: &[u32], size: usize, limit: usize) -> Result<(), StoreRefusal>
         ensures { Tests size limit (3 * limit + 2) (length words.now) result }
     {
-        if limit > LEVELS_MOST {
-            return Err(StoreRefusal::Unfit);
-        }
-        memory::test(size, limit, 3 * limit + 2, words.len())
+        memory::test::<Self>(words, size, limit)
     }
 
     // The store of `size` words, all 0, or where the test refuses the one of no words that leaves the memory alone.
@@ -51,23 +48,7 @@ impl<'a> InverseLog<'a> {
         ensures makes { Makes size limit (3 * limit + 2) (length words.old) (log_meaning result.words.now result.size result.limit result.depth result.noted) words.old result.words.now }
         ensures lender { result.words.ghost_name ≡ words.entry.ghost_name }
     {
-        if Self::test(words, size, limit).is_err() {
-            return InverseLog {
-                words,
-                size: 0,
-                limit: 2,
-                depth: 0,
-                noted: [0; 8],
-            };
-        }
-        memory::clear(words, size);
-        InverseLog {
-            words,
-            size,
-            limit,
-            depth: 0,
-            noted: [0; 8],
-        }
+        memory::make(words, size, limit)
     }
 
     fn has_noted(&self, level: usize, at: usize) -> bool
@@ -176,6 +157,30 @@ impl InverseLog<'_> {
         ensures depth { self.new.depth ≡ self.old.depth }
     {
         self.undo_notes(self.depth - 1);
+    }
+}
+
+impl<'a> OverMemory<'a> for InverseLog<'a> {
+    ghost each = { λ limit. 3 * limit + 2 };
+
+    ghost memory = { λ s. s.words.now };
+
+    fn each(limit: usize) -> usize
+        requires { limit ≤ 8 }
+        ensures each { result ≡ 3 * limit + 2 }
+        ensures image { 0 < result }
+    {
+        3 * limit + 2
+    }
+
+    fn over(words: &'a mut [u32], size: usize, limit: usize) -> InverseLog<'a> {
+        InverseLog {
+            words,
+            size,
+            limit,
+            depth: 0,
+            noted: [0; 8],
+        }
     }
 }
 
