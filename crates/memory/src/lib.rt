@@ -3,12 +3,12 @@
 
 ghost use Rattle.std.specs.Prelude.{◌≡◌, IfOk, replicate};
 ghost use Rattle.std.specs.Borrow.{sem};
-ghost use Rattle.memory.specs.Room.{Host, room, Gives};
+ghost use Rattle.memory.specs.Room.{Host, room, Tests, Gives};
 ghost use Rattle.memory.specs.Lending.{LendsWords};
 
 use std::alloc::{AllocError, Global};
 use std::marker::Model;
-use words::{InverseLog, LEVELS_MOST, Snapshot, Store, WORDS_MOST};
+use words::{InverseLog, LEVELS_MOST, Snapshot, Store, StoreRefusal, WORDS_MOST};
 
 #[derive(Drop)]
 pub struct Memory {
@@ -43,6 +43,13 @@ impl Memory {
         })
     }
 
+    // Whether stores of these N and D are served.
+    pub fn test(&self) -> Result<(), StoreRefusal>
+        ensures { Tests self.now result }
+    {
+        InverseLog::test(&self.words, self.size, self.limit)
+    }
+
     // An inverse log over the memory.
     pub fn log(&mut self) -> InverseLog<'_>
         ensures* lends { sem 𝓛 (LendsWords self.entry result.words) }
@@ -75,6 +82,7 @@ mod tests {
         assert_eq!(rt; memory.log().size(), 5);
         assert_eq!(rt; memory.snapshot().size(), 5);
         assert_eq!(rt; memory.snapshot().get(4), Some(0));
+        assert_eq!(rt; memory.test(), Ok(()));
         Ok(())
     }
 
@@ -83,6 +91,7 @@ mod tests {
         let mut memory = Memory::new(rt.alloc(), 65537, 2, 7)?;
         assert_eq!(rt; memory.log().size(), 0);
         assert_eq!(rt; memory.snapshot().size(), 0);
+        assert_eq!(rt; memory.test(), Err(StoreRefusal::Unfit));
         Ok(())
     }
 }
