@@ -1,4 +1,4 @@
-// Both stores against a plain list of images: the edges, deep nesting, and random sequences of commands.
+// Trials stores against a plain list of images: the edges, deep nesting, and random sequences of commands.
 #![tactic(auto)]
 
 mod plain;
@@ -56,15 +56,15 @@ fn played<S: Store + Drop>(heap: Global, mut store: S, case: Case) -> Result<Tri
 
 // A case on both stores.
 #[derive(Clone, Copy)]
-struct Both {
+struct Trials {
     log: Trial,
     snapshot: Trial,
 }
 
-impl Both {
-    fn of(heap: Global, case: Case) -> Result<Both, AllocError> {
+impl Trials {
+    fn of(heap: Global, case: Case) -> Result<Trials, AllocError> {
         let mut memory = Memory::new(heap, case.size, case.limit, 7)?;
-        Ok(Both {
+        Ok(Trials {
             log: played(heap, memory.log(), case)?,
             snapshot: played(heap, memory.snapshot(), case)?,
         })
@@ -80,17 +80,17 @@ impl Both {
 }
 
 fn try_edge(rt: &HostRuntime, name: &str, case: Case) -> anyhow::Result<bool> {
-    let both = Both::of(rt.alloc(), case)?;
+    let trials = Trials::of(rt.alloc(), case)?;
     println!(rt;
         "{name}: N {}, D {}, {} commands, up to {} levels: inverse log {}, snapshot {}",
         case.size,
         case.limit,
         case.steps,
-        both.deepest(),
-        both.log.good,
-        both.snapshot.good
+        trials.deepest(),
+        trials.log.good,
+        trials.snapshot.good
     )?;
-    Ok(both.good())
+    Ok(trials.good())
 }
 
 // Many short sequences over small stores of every shape.
@@ -104,9 +104,9 @@ fn try_random(rt: &HostRuntime) -> anyhow::Result<bool> {
             seed: u64::from(seed),
             steps: 90,
         };
-        let both = Both::of(rt.alloc(), case)?;
-        good = good.saturating_add(u32::from(both.good()));
-        full = full.saturating_add(u32::from(both.log.deepest == case.limit));
+        let trials = Trials::of(rt.alloc(), case)?;
+        good = good.saturating_add(u32::from(trials.good()));
+        full = full.saturating_add(u32::from(trials.log.deepest == case.limit));
     }
     println!(rt;
         "random: {good} of 210 sequences of 90 commands, N 0 to 9, D 2 to 8, {full} with all levels open at once: both stores agree with the list of images"
