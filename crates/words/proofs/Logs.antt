@@ -1,7 +1,7 @@
 -- What the calls of the inverse log make of its meaning.
-use Rattle.std.proofs.Common.{◌≡◌, ℕ, suc, ◌+◌, ◌-◌, ◌*◌, ◌<◌, ◌≤◌, List, ◌∷◌, length, get_or, take, drop, set, Ok, sym, refl, ap, ◌∙◌, subst, ⊎_elim, mul-le-mul_left, mul-one, add-one, arith}
+use Rattle.std.proofs.Common.{◌≡◌, ℕ, suc, ◌+◌, ◌-◌, ◌*◌, ◌<◌, ◌≤◌, List, [], ◌∷◌, ◌++◌, length, get_or, take, drop, set, Ok, sym, refl, ap, ◌∙◌, subst, ⊎_elim, mul-le-mul_left, mul-one, add-one, arith}
 use lib.Seq.{take-set-lt}
-use Rattle.std.proofs.lemmas.List.{get_or-take, get_or-set_same, get_or-set_other, length-take-le, set-set, set-get_or, drop-set-lt, drop-drop}
+use Rattle.std.proofs.lemmas.List.{get_or-take, get_or_append_left, get_or_at, length-append, length-take-le, set-set, set-get_or, drop-set-lt, drop-drop}
 use Rattle.std.proofs.lemmas.Bool.{cases_eq}
 use Rattle.words.specs.Meaning.{Sets, Opens, Keeps, Drops, levels, newest}
 use Rattle.words.specs.InverseLog.{undo, pile, log_meaning, log_lent, NoteAt, Notes}
@@ -75,43 +75,6 @@ module _ (ws : List ℕ) (n d k : ℕ) (noted : List ℕ) (s : Sound ws n d k no
             (pile-rest ws' (set ws' at word) n noted' k (drop-set-lt n ws' at word below) (take n (set ws' at word)) ∙ ap (pile ws' n noted' k) image ∙ saved),
       )
 
-  -- ---- open
-
-  opened-counts : (level : ℕ) → level < k → get_or (set noted k 0) level 0 ≡ get_or noted level 0
-  opened-counts level below = get_or-set_other noted k level 0 0 (λ e. omega arith)
-
-  pub opens : k < d → k < length noted → Opens (log_meaning ws n d k noted) (log_meaning ws n d (k + 1) (set noted k 0)) (Ok tt)
-  opens below array = (
-    omega (arith, length-pile ws n noted k (take n ws)),
-    same_meaning refl refl
-        (ap (λ m. pile ws n (set noted k 0) m (take n ws)) (add-one k)
-        ∙ ap (λ m. undo ws n k m (take n ws) ∷ pile ws n (set noted k 0) k (undo ws n k m (take n ws))) (get_or-set_same noted k 0 0 array)
-        ∙ ap (λ older'. take n ws ∷ older') (pile-same ws ws n noted (set noted k 0) k (λ level less image. ap (λ m. undo ws n level m image) (opened-counts level less)) (take n ws))),
-  )
-
-  pub opens_none : d ≡ k → levels (log_meaning ws n d k noted) ≡ d
-  opens_none full = length-pile ws n noted k (take n ws) ∙ sym full
-
-  opened-note : (level i : ℕ) → k < length noted → NoteAt (k + 1) (set noted k 0) level i → NoteAt k noted level i
-  opened-note level i array h =
-      ⊎_elim (λ last. absurd (let none : i < 0 = subst (λ m. i < m) (ap (λ l. get_or (set noted k 0) l 0) last ∙ get_or-set_same noted k 0 0 array) h.1 in omega arith))
-      (λ ne. let less : level < k = omega (arith, h.0) in (less, subst (λ m. i < m) (opened-counts level less) h.1)) (cases_eq level k)
-
-  pub owed_open : k < d → k < length noted → Owed ws n d (k + 1) (set noted k 0)
-  owed_open below array =
-      owed ws n d (k + 1) (set noted k 0)
-      (record {
-        room = s.room;
-        few = s.few;
-        low = s.low;
-        shallow = omega arith;
-        counted = λ level h.
-            ⊎_elim (λ last. subst (λ m. m ≤ n) (sym (ap (λ l. get_or (set noted k 0) l 0) last ∙ get_or-set_same noted k 0 0 array)) (omega arith))
-            (λ ne. let less : level < k = omega arith in subst (λ m. m ≤ n) (sym (opened-counts level less)) (s.counted level less)) (cases_eq level k);
-        within = λ level i h. s.within level i (opened-note level i array h);
-        placed = λ level i h. s.placed level i (opened-note level i array h);
-      })
-
   -- ---- keep and drop
 
   pub handed : (ws' noted' : List ℕ) (level : ℕ) → 0 < level → level < k → Notes n d (level - 1) (undo ws n level (get_or noted level 0)) ws noted ws' noted'
@@ -129,6 +92,9 @@ module _ (ws : List ℕ) (n d k : ℕ) (noted : List ℕ) (s : Sound ws n d k no
     same_meaning refl same (ap (pile ws' n noted' level) same ∙ saved ∙ sym (ap (λ m. drop 1 (pile ws n noted m (take n ws))) depth)),
   )
 
+  pub opens_none : d ≡ k → levels (log_meaning ws n d k noted) ≡ d
+  opens_none full = length-pile ws n noted k (take n ws) ∙ sym full
+
   pub none_open : k ≡ 0 → levels (log_meaning ws n d k noted) ≡ 0
   none_open none = length-pile ws n noted k (take n ws) ∙ none
 
@@ -141,13 +107,6 @@ module _ (ws : List ℕ) (n d k : ℕ) (noted : List ℕ) (s : Sound ws n d k no
     ap length image ∙ length-undo ws n level (get_or noted level 0) (take n ws),
   )
 
--- the fields that no call changes
-pub same_log : (ws : List ℕ) (n d k n' d' k' : ℕ) (noted : List ℕ) → n' ≡ n → d' ≡ d → k' ≡ k → log_meaning ws n' d' k' noted ≡ log_meaning ws n d k noted
-same_log ws n d k n' d' k' noted p q r = λ i. log_meaning ws (p i) (q i) (r i) noted
-
-pub same_lent : (lender : ℕ) (ws : List ℕ) (n d n' d' : ℕ) → n' ≡ n → d' ≡ d → log_lent lender ws n' d' ≡ log_lent lender ws n d
-same_lent lender ws n d n' d' p q = λ i. log_lent lender ws (p i) (q i)
-
 pub lent_rest : (lender lender' : ℕ) (ws ws' : List ℕ) (n d : ℕ) → lender' ≡ lender → drop n ws' ≡ drop n ws → log_lent lender' ws' n d ≡ log_lent lender ws n d
 lent_rest lender lender' ws ws' n d same rest = lent_by lender lender' ws ws' n d same (behind-rest ws ws' n d rest)
 
@@ -155,16 +114,76 @@ pub lent_notes : (lender lender' : ℕ) (n d level : ℕ) (first : List ℕ → 
     → log_lent lender' ws' n d ≡ log_lent lender ws n d
 lent_notes lender lender' n d level first ws noted ws' noted' same h = lent_by lender lender' ws ws' n d same h.behind
 
--- fewer levels ask for less
-pub owed_fewer : (ws : List ℕ) (n d k level : ℕ) (noted : List ℕ) → level ≤ k → Sound ws n d k noted → Owed ws n d level noted
-owed_fewer ws n d k level noted less s =
-    owed ws n d level noted
-    (record {
-      room = s.room;
-      few = s.few;
-      low = s.low;
-      shallow = omega (arith, s.shallow);
-      counted = λ other h. s.counted other (omega arith);
-      within = λ other i h. s.within other i (omega (arith, h.0), h.1);
-      placed = λ other i h. s.placed other i (omega (arith, h.0), h.1);
-    })
+-- ---- open
+
+module _ (ws : List ℕ) (n d : ℕ) (noted noted' : List ℕ) (s : Sound ws n d (length noted) noted) (more : noted' ≡ noted ++ 0 ∷ []) where
+  counts-more : (level : ℕ) → level < length noted → get_or noted' level 0 ≡ get_or noted level 0
+  counts-more level below = ap (λ xs. get_or xs level 0) more ∙ get_or_append_left noted (0 ∷ []) 0 level below
+
+  none_noted : get_or noted' (length noted) 0 ≡ 0
+  none_noted = ap (λ xs. get_or xs (length noted) 0) more ∙ get_or_at noted 0 [] 0 (length noted) refl
+
+  depth-more : length noted' ≡ suc (length noted)
+  depth-more = ap length more ∙ length-append noted (0 ∷ []) ∙ add-one (length noted)
+
+  pub opens : length noted < d → Opens (log_meaning ws n d (length noted) noted) (log_meaning ws n d (length noted') noted') (Ok tt)
+  opens below = (
+    omega (arith, length-pile ws n noted (length noted) (take n ws)),
+    same_meaning refl refl
+        (ap (λ m. pile ws n noted' m (take n ws)) depth-more
+        ∙ ap (λ m. undo ws n (length noted) m (take n ws) ∷ pile ws n noted' (length noted) (undo ws n (length noted) m (take n ws))) none_noted
+        ∙ ap (λ older'. take n ws ∷ older') (pile-same ws ws n noted noted' (length noted) (λ level less image. ap (λ m. undo ws n level m image) (counts-more level less)) (take n ws))),
+  )
+
+  noted-before : (level i : ℕ) → NoteAt (length noted') noted' level i → NoteAt (length noted) noted level i
+  noted-before level i h =
+      ⊎_elim (λ last. absurd (let none : i < 0 = subst (λ m. i < m) (ap (λ l. get_or noted' l 0) last ∙ none_noted) h.1 in omega arith))
+      (λ ne. let less : level < length noted = omega (arith, h.0, depth-more) in (less, subst (λ m. i < m) (counts-more level less) h.1)) (cases_eq level (length noted))
+
+  pub owed_open : length noted < d → Owed ws n d (length noted') noted'
+  owed_open below =
+      owed ws n d (length noted') noted'
+      (record {
+        room = s.room;
+        few = s.few;
+        low = s.low;
+        shallow = omega (arith, depth-more);
+        counted = λ level h.
+            ⊎_elim (λ last. subst (λ m. m ≤ n) (sym (ap (λ l. get_or noted' l 0) last ∙ none_noted)) (omega arith))
+            (λ ne. let less : level < length noted = omega (arith, depth-more) in subst (λ m. m ≤ n) (sym (counts-more level less)) (s.counted level less)) (cases_eq level (length noted));
+        within = λ level i h. s.within level i (noted-before level i h);
+        placed = λ level i h. s.placed level i (noted-before level i h);
+      })
+
+-- ---- the newest level gone
+
+module _ (ws : List ℕ) (n d level : ℕ) (noted noted' : List ℕ) (some : level ≤ length noted) (fewer : noted' ≡ take level noted) where
+  depth-fewer : length noted' ≡ level
+  depth-fewer = ap length fewer ∙ length-take-le level noted some
+
+  counts-fewer : (other : ℕ) → other < level → get_or noted' other 0 ≡ get_or noted other 0
+  counts-fewer other less = ap (λ xs. get_or xs other 0) fewer ∙ get_or-take level noted other 0 less
+
+  pub meaning-fewer : log_meaning ws n d (length noted') noted' ≡ log_meaning ws n d level noted
+  meaning-fewer =
+      same_meaning refl refl
+      (ap (λ m. pile ws n noted' m (take n ws)) depth-fewer
+      ∙ pile-same ws ws n noted noted' level (λ other less image. ap (λ m. undo ws n other m image) (counts-fewer other less)) (take n ws))
+
+  noted-too : (other i : ℕ) → NoteAt (length noted') noted' other i → NoteAt (length noted) noted other i
+  noted-too other i h =
+      let less : other < level = omega (arith, h.0, depth-fewer) in (omega arith, subst (λ m. i < m) (counts-fewer other less) h.1)
+
+  -- asks for less
+  pub owed_fewer : Sound ws n d (length noted) noted → Owed ws n d (length noted') noted'
+  owed_fewer s =
+      owed ws n d (length noted') noted'
+      (record {
+        room = s.room;
+        few = s.few;
+        low = s.low;
+        shallow = omega (arith, s.shallow, depth-fewer);
+        counted = λ other h. let less : other < level = omega (arith, depth-fewer) in subst (λ m. m ≤ n) (sym (counts-fewer other less)) (s.counted other (omega arith));
+        within = λ other i h. s.within other i (noted-too other i h);
+        placed = λ other i h. s.placed other i (noted-too other i h);
+      })
