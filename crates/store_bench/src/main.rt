@@ -75,18 +75,16 @@ fn measured(rt: &HostRuntime, size: usize) -> anyhow::Result<Row> {
     })
 }
 
-// One of the times of each size, and its ratio to the one of the smallest store, in hundredths.
+// One of the times of each size, and its ratio to that of the smallest store, in hundredths.
 fn show<F: Fn(Times) -> u128>(
     rt: &HostRuntime,
     name: &str,
-    rows: &[Row],
+    rows: [Row; 3],
     time: F,
 ) -> anyhow::Result<()>
     requires { F.IsAlwaysCallable time }
 {
-    let Some(least) = rows.first() else {
-        return Ok(());
-    };
+    let [least, ..] = rows;
     for row in rows {
         let size = row.size;
         let log = time(row.log);
@@ -101,12 +99,9 @@ fn show<F: Fn(Times) -> u128>(
 }
 
 fn run(rt: &HostRuntime) -> anyhow::Result<()> {
-    let mut rows = Vec::new(rt.alloc());
-    for size in SIZES {
-        rows.push(measured(rt, size)?)?;
-    }
-    show(rt, "open, 20 sets, drop", rows.as_slice(), |t| t.drop)?;
-    show(rt, "open, 20 sets, keep", rows.as_slice(), |t| t.keep)
+    let rows = SIZES.try_map(|size| measured(rt, size))?;
+    show(rt, "open, 20 sets, drop", rows, |times| times.drop)?;
+    show(rt, "open, 20 sets, keep", rows, |times| times.keep)
 }
 
 fn main(rt: HostRuntime) -> anyhow::Result<()> {
