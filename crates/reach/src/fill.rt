@@ -5,6 +5,7 @@ ghost use Rattle.reach.specs.Listed.{listed};
 ghost use Rattle.reach.specs.Steps.{Stand, Kept, Round, Telling, Arrived};
 ghost use Rattle.reach.specs.Answer.{Whole};
 
+use crate::flags::clear;
 use crate::queue::Queue;
 use crate::relation::Relation;
 
@@ -22,12 +23,6 @@ enum Heard {
     Sought,
     Nothing,
     Next(u32),
-}
-
-pub fn clear(flags: &mut [u8; 1024])
-    ensures { flags.new ≡ replicate 1024 0 }
-{
-    *flags = [0; 1024];
 }
 
 fn is_sought(sought: Option<u32>, number: u32) -> bool

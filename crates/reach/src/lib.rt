@@ -2,11 +2,13 @@
 #![tactic(auto)]
 
 mod fill;
+mod flags;
 mod path;
 mod queue;
 mod relation;
 mod search;
 
+pub use flags::clear;
 pub use path::Path;
 pub use relation::{Neighbour, Relation};
-pub use search::{Outcome, Search, answers_are_determined};
+pub use search::{Search, answers_are_determined};

@@ -1,5 +1,6 @@
 // A path: numbers of which each is followed by the next.
-ghost use Rattle.std.specs.Prelude.{◌≡◌, ◌+◌, ◌<◌, ◌≤◌, [], ◌∷◌, drop};
+ghost use Rattle.std.specs.Prelude.{◌≡◌, ◌+◌, ◌<◌, ◌≤◌, [], ◌∷◌, length, drop};
+ghost use Rattle.reach.specs.Listed.{along};
 
 // It is made from its end, so it stands at the end of its table.
 #[derive(Drop)]
@@ -31,7 +32,8 @@ impl Path {
 
     // Its numbers, from the first to the last.
     pub fn numbers(&self) -> &[u32]
-        ensures { result.now ≡ drop self.now.from self.now.numbers }
+        ensures numbers { result.now ≡ along self.now }
+        ensures few { length result.now ≤ 1024 }
     {
         let from = self.from.min(1024);
         &self.numbers[from..]

@@ -4,17 +4,11 @@ ghost use Rattle.reach.specs.Listed.{listed};
 ghost use Rattle.reach.specs.Reach.{Reach};
 ghost use Rattle.reach.specs.Answer.{Answers, Searched, PathTo, Determined};
 
-use crate::fill::{LIMIT, Query, clear, fill};
+use crate::fill::{LIMIT, Query, fill};
+use crate::flags::clear;
 use crate::path::Path;
 use crate::queue::Queue;
 use crate::relation::Relation;
-
-// How a search ended: at the number looked for, with the path to it; or with all that is reached, so many numbers.
-#[derive(Drop)]
-pub enum Outcome {
-    Found(Path),
-    Exhausted(u32),
-}
 
 // A guard over a table of flags that is lent: when it is let go, on whatever way, every flag is 0.
 pub struct Search<'a> {
@@ -26,7 +20,7 @@ impl Drop for Search<'_> {
     fn drop(self)
         ensures { self.exit.0.now ≡ replicate 1024 0 }
     {
-        *self.flags = [0; 1024];
+        clear(self.flags);
         let Search { flags: _, queue: _ } = self;
     }
 }
@@ -45,8 +39,13 @@ impl<'a> Search<'a> {
         }
     }
 
-    // Searches from a start, and stops early at the number looked for.
-    pub fn run<R: Relation>(&mut self, relation: &R, start: u32, sought: Option<u32>) -> Outcome
+    // Searches from a start: how many numbers are reached. The number looked for stops it, with the path to it as the error.
+    pub fn run<R: Relation>(
+        &mut self,
+        relation: &R,
+        start: u32,
+        sought: Option<u32>,
+    ) -> Result<u32, Path>
         ensures lent { self.new.flags.ghost_name ≡ self.old.flags.ghost_name }
         ensures answers { Answers (R.Relation.follows relation.now) start sought self.new.flags.now (listed self.new.queue) result }
     {
@@ -59,9 +58,9 @@ impl<'a> Search<'a> {
             let path = self.queue.path(self.queue.len() - 1);
             clear(self.flags);
             self.queue.clear();
-            return Outcome::Found(path);
+            return Err(path);
         }
-        Outcome::Exhausted(self.queue.len())
+        Ok(self.queue.len())
     }
 
     // Whether a number is flagged.
@@ -87,8 +86,6 @@ fn is_marked(flags: &[u8; 1024], number: u32) -> bool
 }
 
 // The answer is determined by what the relation tells, the start and the number looked for.
-pub fn answers_are_determined() -> u8
+pub fn answers_are_determined()
     ensures { Determined }
-{
-    0
-}
+{}

@@ -3,7 +3,7 @@ use crate::closure::{closure, count};
 use crate::graph::SIZE;
 use crate::links::Links;
 use crate::shapes::Shape;
-use reach::{Outcome, Relation, Search};
+use reach::{Relation, Search};
 
 // Where the two differ.
 #[derive(Clone, Copy)]
@@ -58,13 +58,11 @@ fn whole(
     flags: &mut [u8; 1024],
 ) -> Result<(), Differs> {
     let mut search = Search::new(flags);
-    match search.run(&links, start, None) {
-        Outcome::Found(_) => return Err(Differs::Count),
-        Outcome::Exhausted(n) => {
-            if n != count(marks) {
-                return Err(Differs::Count);
-            }
-        }
+    if !search
+        .run(&links, start, None)
+        .is_ok_and(|n| n == count(marks))
+    {
+        return Err(Differs::Count);
     }
     for number in 0..SIZE {
         let reached = marks[number as usize] == 1;
@@ -122,8 +120,8 @@ fn find(
 ) -> bool {
     let mut search = Search::new(flags);
     match search.run(&links, start, Some(number)) {
-        Outcome::Found(path) => reached && leads(shape, path.numbers(), start, number),
-        Outcome::Exhausted(_) => !reached,
+        Err(path) => reached && leads(shape, path.numbers(), start, number),
+        Ok(_) => !reached,
     }
 }
 
