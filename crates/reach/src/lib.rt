@@ -1,7 +1,6 @@
 // One search over any relation on numbers, with flags that are always given back clean.
 #![tactic(auto)]
 
-mod fill;
 mod flags;
 mod path;
 mod queue;
