@@ -32,7 +32,7 @@ length-trails_from : (before : List (List ℕ)) (found : List Found) → length 
 unfolding trails
 length-trails_from before [] = omega arith
 length-trails_from before (x ∷ xs) =
-    omega (arith, length-trails_from (with_trail before x) xs, length_push before (x.number ∷ told_by x.teller before))
+    omega (arith, length-trails_from (with_trail before x) xs, length_push before (x.number ∷ get_or before x.teller []))
 
 pub length-trails : (found : List Found) → length (trails [] found) ≡ length found
 length-trails found = omega (arith, length-trails_from [] found)
@@ -51,7 +51,7 @@ module _ (found : List Found) where
     one_more : trails [] (take (k + 1) found) ≡ with_trail (trails [] (take k found)) (get_or found k d)
     one_more = ap (trails []) (take_more found k d lt) ∙ trails-push (take k found) (get_or found k d)
 
-    trail_is : get_or (trails [] found) k [] ≡ (get_or found k d).number ∷ told_by (get_or found k d).teller (trails [] (take k found))
+    trail_is : get_or (trails [] found) k [] ≡ (get_or found k d).number ∷ get_or (trails [] (take k found)) (get_or found k d).teller []
     trail_is =
         ap (λ l. get_or l k []) (prefix (k + 1)).is
         ∙ get_or_append_left _ (prefix (k + 1)).more [] k (omega (arith, length-trails (take (k + 1) found), length-take (k + 1) found))
@@ -67,14 +67,12 @@ module _ (found : List Found) where
     head_at = record { behind = _; is = trail_is }
 
     -- a teller counts where it stands at an earlier place
-    pub trail_told : (counted : Option ℕ) → MatchOption (get_or found k d).teller (counted ≡ None) (λ t. counted ≡ cond (ltb t k) (Some t) None) →
+    pub trail_told : (counted : Option ℕ) → counted ≡ cond (ltb (get_or found k d).teller k) (Some (get_or found k d).teller) None →
         get_or (trails [] found) k [] ≡ (get_or found k d).number ∷ told_by counted (trails [] found)
     trail_told counted is = trail_is ∙ ap (λ t. (get_or found k d).number ∷ t) (go (get_or found k d).teller is)
       where
-        go : (own : Option ℕ) → MatchOption own (counted ≡ None) (λ t. counted ≡ cond (ltb t k) (Some t) None) →
-            told_by own (trails [] (take k found)) ≡ told_by counted (trails [] found)
-        go None e = rw e refl
-        go (Some t) e =
+        go : (t : ℕ) → counted ≡ cond (ltb t k) (Some t) None → get_or (trails [] (take k found)) t [] ≡ told_by counted (trails [] found)
+        go t e =
             ⊎_elim
             (λ before. rw (e, cond-true (ltb t k) (Some t) None (lt-ltb t k before)) (same t before))
             (λ later. rw (e, cond-false (ltb t k) (Some t) None (le-ltb t k later)) (get_or_past (trails [] (take k found)) t [] (omega (arith, earlier_long))))
@@ -92,7 +90,7 @@ spot_from y before [] none = record { inside = λ lt. absurd (omega arith); outs
 spot_from y before (x ∷ xs) none = go (eqb x.number y) refl (spot_from y (with_trail before x) xs)
   where
     trail : List ℕ
-    trail = x.number ∷ told_by x.teller before
+    trail = x.number ∷ get_or before x.teller []
 
     all : List (List ℕ)
     all = trails (with_trail before x) xs
@@ -101,7 +99,7 @@ spot_from y before (x ∷ xs) none = go (eqb x.number y) refl (spot_from y (with
     rest = position_or_len (λ f. eqb f.number y) xs
 
     ends : (b : Bool) → eqb x.number y ≡ b → (more : List (List ℕ)) → trail_at y (before ++ trail ∷ more) ≡ cond b trail (trail_at y more)
-    ends b e more = at_push y x.number (told_by x.teller before) before more none ∙ ap (λ b. cond b trail (trail_at y more)) e
+    ends b e more = at_push y x.number (get_or before x.teller []) before more none ∙ ap (λ b. cond b trail (trail_at y more)) e
 
     grown : More (with_trail before x) all
     grown = trails_more (with_trail before x) xs

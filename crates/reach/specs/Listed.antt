@@ -4,14 +4,14 @@ use Rattle.reach.specs.declared.queue.Found.{Found}
 use Rattle.reach.specs.declared.queue.Queue.{Queue}
 use Rattle.reach.specs.declared.path.Path.{Path}
 
--- The trail at the place of a teller. What none told, or no earlier one, has nothing behind it.
+-- The trail at the place of a teller. What none told has nothing behind it.
 abbrev pub told_by : Option ℕ → List (List ℕ) → List ℕ
 told_by None found = []
 told_by (Some place) found = slice_index_or found place []
 
--- The trails, and behind them that of one number more.
+-- The trails, and behind them that of one number more. One that no earlier place told has nothing behind it.
 abbrev pub with_trail : List (List ℕ) → Found → List (List ℕ)
-with_trail found new = found ++ (new.number ∷ told_by new.teller found) ∷ []
+with_trail found new = found ++ (new.number ∷ slice_index_or found new.teller []) ∷ []
 
 -- The trails of numbers found, behind those of others.
 unfoldable pub trails : List (List ℕ) → List Found → List (List ℕ)

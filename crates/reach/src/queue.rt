@@ -8,11 +8,11 @@ ghost use Rattle.reach.specs.Answer.{PathTo};
 use crate::path::Path;
 use arrayvec::ArrayVec;
 
-// A number, and the place of the one that told it: an earlier place, or none for the start.
+// A number, and the place of the one that told it: an earlier place, but for the start.
 #[derive(Clone, Copy, Default)]
 pub(crate) struct Found {
     pub(crate) number: u32,
-    pub(crate) teller: Option<usize>,
+    pub(crate) teller: usize,
 }
 
 #[derive(Drop)]
@@ -62,18 +62,15 @@ impl Queue {
         self.found.iter().position(|found| found.number == number)
     }
 
-    // The number at a place, told by an earlier one or by none.
-    fn told_at(&self, place: usize) -> Found
+    // The number at a place, and the place of the one that told it, if any did.
+    fn told_at(&self, place: usize) -> (u32, Option<usize>)
         requires { place < length (listed self.now) }
-        ensures trail { slice_index_or (listed self.now) place [] ≡ result.number ∷ told_by result.teller (listed self.now) }
-        ensures earlier { IfSome result.teller (λ teller. teller < place) }
+        ensures trail { slice_index_or (listed self.now) place [] ≡ result.0 ∷ told_by result.1 (listed self.now) }
+        ensures earlier { IfSome result.1 (λ teller. teller < place) }
         ensures few { length (listed self.now) ≤ 1024 }
     {
-        let found = self.found[place];
-        Found {
-            teller: found.teller.filter(|teller| *teller < place),
-            ..found
-        }
+        let Found { number, teller } = self.found[place];
+        (number, (teller < place).then_some(teller))
     }
 
     // The path to the number at a place, walked back from teller to teller.
@@ -84,9 +81,9 @@ impl Queue {
         let mut numbers = ArrayVec::new();
         let mut next = Some(place);
         while let Some(at) = next {
-            let found = self.told_at(at);
-            numbers.push(found.number);
-            next = found.teller;
+            let (number, teller) = self.told_at(at);
+            numbers.push(number);
+            next = teller;
         }
         numbers.reverse();
         Path { numbers }

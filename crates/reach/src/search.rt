@@ -1,7 +1,7 @@
 // The search, and the guard over the flags that it borrows.
-ghost use Rattle.std.specs.Prelude.{◌≡◌, ℕ, ◌+◌, ◌<◌, List, [], ◌∷◌, length, replicate, MatchBool, MatchResult, ◌≢◌, slice_index};
+ghost use Rattle.std.specs.Prelude.{◌≡◌, ℕ, ◌+◌, ◌<◌, List, [], ◌∷◌, length, replicate, MatchBool, MatchResult, ◌≢◌, slice_index, slice_index_or};
 ghost use Rattle.reach.specs.Order.{hear};
-ghost use Rattle.reach.specs.Listed.{listed, told_by};
+ghost use Rattle.reach.specs.Listed.{listed};
 ghost use Rattle.reach.specs.Steps.{Stand, Unmet, Met, Kept, Round, Telling, Arrived};
 ghost use Rattle.reach.specs.Reach.{Reach};
 ghost use Rattle.reach.specs.Answer.{Answers, Whole, Searched, PathTo, Determined};
@@ -107,12 +107,12 @@ impl<'a> Search<'a> {
     fn note(
         &mut self,
         sought: Option<u32>,
-        teller: Option<usize>,
+        teller: usize,
         number: u32,
     ) -> Result<(), Sought>
         requires { Kept sought self.old.flags.now (listed self.old.queue) }
         ensures lent { self.new.flags.ghost_name ≡ self.old.flags.ghost_name }
-        ensures heard { listed self.new.queue ≡ hear (told_by teller (listed self.old.queue)) (number ∷ []) (listed self.old.queue) }
+        ensures heard { listed self.new.queue ≡ hear (slice_index_or (listed self.old.queue) teller []) (number ∷ []) (listed self.old.queue) }
         ensures stand { Stand self.new.flags.now (listed self.new.queue) }
         ensures sought { MatchResult result (λ _. Unmet sought (listed self.new.queue)) (λ _. Met sought (listed self.new.queue)) }
     {
@@ -141,7 +141,7 @@ impl<'a> Search<'a> {
     {
         let mut edge = query.relation.first(number);
         while let Some(neighbour) = query.relation.step(edge) {
-            self.note(query.sought, Some(place), neighbour.number)?;
+            self.note(query.sought, place, neighbour.number)?;
             edge = neighbour.next;
         }
         Ok(())
@@ -153,7 +153,7 @@ impl<'a> Search<'a> {
         ensures outcome { MatchResult result (λ _. Whole (R.Relation.follows query.now.relation.now) query.now.start query.now.sought self.new.flags.now (listed self.new.queue) (length (listed self.new.queue))) (λ _. Arrived (R.Relation.follows query.now.relation.now) query.now.start query.now.sought (listed self.new.queue)) }
     {
         self.clear();
-        self.note(query.sought, None, query.start)?;
+        self.note(query.sought, 0, query.start)?;
         for place in 0..LIMIT {
             let Some(number) = self.queue.number(place) else {
                 break;
