@@ -1,6 +1,6 @@
 -- The trails of numbers that were found, one after the other.
-use Rattle.std.proofs.Common.{◌≡◌, ℕ, zero, suc, ◌+◌, ◌<◌, ◌≤◌, Bool, true, false, cond, eqb, ltb, List, [], ◌∷◌, ◌++◌, length, get_or, take, drop, Option, Some, None, IfSome, MatchOption, sym, refl, ap, ◌∙◌, subst, ⊎_elim, append_assoc, zero-add, arith}
-use Rattle.std.specs.Prelude.{fold, not, position}
+use Rattle.std.proofs.Common.{◌≡◌, ℕ, suc, ◌+◌, ◌<◌, ◌≤◌, Bool, true, false, cond, eqb, ltb, List, [], ◌∷◌, ◌++◌, length, get_or, take, drop, Option, Some, None, MatchOption, sym, refl, ap, ◌∙◌, subst, ⊎_elim, append_assoc, zero-add, arith}
+use Rattle.std.specs.Prelude.{not, position}
 use Rattle.std.specs.List.{position_or_len}
 use Rattle.std.proofs.lemmas.List.{get_or_past, get_or_append_left, get_or_push, length_push, length-take, get_or-append-add, take-append-drop, take_more}
 use Rattle.std.proofs.lemmas.List.Sums.{fold_push, fold-append}
@@ -145,9 +145,5 @@ find_place y found = go (ltb (position_or_len (λ f. eqb f.number y) found) (len
 abbrev pub left : Option ℕ → ℕ
 left None = 0
 left (Some at) = at + 1
-
-pub left_falls : (teller : Option ℕ) (at : ℕ) → IfSome teller (λ t. t < at) → left teller ≤ at
-left_falls None at h = omega arith
-left_falls (Some t) at h = omega arith
 
 pub ruleset listing = (trails-none, trails-push, length-trails, head_at)

@@ -9,6 +9,7 @@ use crate::path::Path;
 use arrayvec::ArrayVec;
 
 // A number, and the place of the one that told it: an earlier place, but for the start.
+// The start names its own place: an `Option` makes the table half as large again, and a search a third slower.
 #[derive(Clone, Copy, Default)]
 pub(crate) struct Found {
     pub(crate) number: u32,

@@ -103,13 +103,8 @@ impl<'a> Search<'a> {
         self.queue.clear();
     }
 
-    // A number is told, the start by none: one that is new is flagged and listed.
-    fn note(
-        &mut self,
-        sought: Option<u32>,
-        teller: usize,
-        number: u32,
-    ) -> Result<(), Sought>
+    // A number is told by the one at the place `teller`, the start by none: one that is new is flagged and listed.
+    fn note(&mut self, sought: Option<u32>, teller: usize, number: u32) -> Result<(), Sought>
         requires { Kept sought self.old.flags.now (listed self.old.queue) }
         ensures lent { self.new.flags.ghost_name ≡ self.old.flags.ghost_name }
         ensures heard { listed self.new.queue ≡ hear (slice_index_or (listed self.old.queue) teller []) (number ∷ []) (listed self.old.queue) }
@@ -135,9 +130,14 @@ impl<'a> Search<'a> {
         number: u32,
     ) -> Result<(), Sought>
         requires kept { Kept query.now.sought self.old.flags.now (listed self.old.queue) }
-        requires telling { Telling (R.Relation.follows query.now.relation.now) query.now.start place (R.Relation.follows query.now.relation.now number) (listed self.old.queue) }
+        requires telling { let next = R.Relation.follows query.now.relation.now in
+            Telling next query.now.start place (next number) (listed self.old.queue) }
         ensures lent { self.new.flags.ghost_name ≡ self.old.flags.ghost_name }
-        ensures outcome { MatchResult result (λ _. Kept query.now.sought self.new.flags.now (listed self.new.queue) × Round (R.Relation.follows query.now.relation.now) query.now.start (place + 1) (listed self.new.queue)) (λ _. Arrived (R.Relation.follows query.now.relation.now) query.now.start query.now.sought (listed self.new.queue)) }
+        ensures outcome { let next = R.Relation.follows query.now.relation.now in
+            let found = listed self.new.queue in
+            MatchResult result
+            (λ _. Kept query.now.sought self.new.flags.now found × Round next query.now.start (place + 1) found)
+            (λ _. Arrived next query.now.start query.now.sought found) }
     {
         let mut edge = query.relation.first(number);
         while let Some(neighbour) = query.relation.step(edge) {
@@ -150,7 +150,11 @@ impl<'a> Search<'a> {
     // Fills the flags and the queue, whatever they held, up to the number looked for.
     fn fill<R: Relation>(&mut self, query: &Query<'_, R>) -> Result<(), Sought>
         ensures lent { self.new.flags.ghost_name ≡ self.old.flags.ghost_name }
-        ensures outcome { MatchResult result (λ _. Whole (R.Relation.follows query.now.relation.now) query.now.start query.now.sought self.new.flags.now (listed self.new.queue) (length (listed self.new.queue))) (λ _. Arrived (R.Relation.follows query.now.relation.now) query.now.start query.now.sought (listed self.new.queue)) }
+        ensures outcome { let next = R.Relation.follows query.now.relation.now in
+            let found = listed self.new.queue in
+            MatchResult result
+            (λ _. Whole next query.now.start query.now.sought self.new.flags.now found (length found))
+            (λ _. Arrived next query.now.start query.now.sought found) }
     {
         self.clear();
         self.note(query.sought, 0, query.start)?;
