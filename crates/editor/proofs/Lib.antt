@@ -1,5 +1,6 @@
 mod Alike
 mod Batches
+mod Calling
 mod Emptied
 pub mod Holding
 mod Instance
