@@ -1,5 +1,5 @@
 -- What drives a signal, as a word: 0 absent, 1 input, 2 gate, 3 latch.
-use Rattle.std.specs.Prelude.{ℕ, zero, suc}
+use Rattle.std.specs.Prelude.{ℕ, zero, suc, List, codes}
 use Rattle.netlist.specs.Netlist.{Driver, absent, input, gate, latch}
 use Rattle.board.specs.declared.kind.Kind.{Kind}
 use Rattle.board.specs.declared.kind.Kind.TheVariants.{Absent, Input, Gate, Latch}
@@ -22,3 +22,10 @@ word_of Absent = 0
 word_of Input = 1
 word_of Gate = 2
 word_of Latch = 3
+
+-- how a kind is printed
+abbrev pub name_of : Kind → List ℕ
+name_of Absent = codes "absent"
+name_of Input = codes "input"
+name_of Gate = codes "gate"
+name_of Latch = codes "latch"

@@ -1,6 +1,8 @@
 // What drives a signal.
 ghost use Rattle.std.specs.Prelude.{◌≡◌};
-ghost use Rattle.board.specs.Kinds.{kind_by, word_of};
+ghost use Rattle.board.specs.Kinds.{kind_by, name_of, word_of};
+
+use std::fmt;
 
 #[derive(Clone, Copy, PartialEq, Eq, Debug)]
 pub enum Kind {
@@ -8,6 +10,21 @@ pub enum Kind {
     Input,
     Gate,
     Latch,
+}
+
+impl fmt::Display for Kind {
+    ghost use Rattle.std.specs.Prelude.{Some};
+
+    ghost output = { λ kind. Some (name_of kind) };
+
+    fn fmt<W: fmt::Write>(&self, f: &mut fmt::Formatter<W>) -> fmt::Result {
+        f.write_str(match self {
+            Kind::Absent => "absent",
+            Kind::Input => "input",
+            Kind::Gate => "gate",
+            Kind::Latch => "latch",
+        })
+    }
 }
 
 // Any word names a kind, so that any words hold a board.

@@ -1,23 +1,14 @@
 // One command to a line: words parted by one blank, first its name, then decimal numbers below 2^32.
+use arrayvec::ArrayVec;
+use editor::Call;
 use netlist::Edit;
+use store_script::decimal;
 
 // M and D of an editor.
 #[derive(Clone, Copy)]
 pub struct Shape {
     pub signals: u32,
     pub limit: u32,
-}
-
-// A call on an editor.
-#[derive(Clone, Copy)]
-pub enum Call {
-    Begin,
-    Mark,
-    KeepMark,
-    DropMark,
-    Keep,
-    Drop,
-    Edit(Edit),
 }
 
 #[derive(Clone, Copy)]
@@ -29,159 +20,67 @@ pub enum Command {
 
 // Whether a call is handed the flags.
 pub fn takes_flags(call: Call) -> bool {
-    match call {
-        Call::Edit(Edit::Gate { .. }) | Call::Edit(Edit::Move { .. }) => true,
-        _ => false,
-    }
+    matches!(call, Call::Make(Edit::Gate { .. } | Edit::Move { .. }))
 }
 
 // The most numbers that a command has.
 const NUMBERS_MOST: usize = 7;
 
-#[derive(Clone, Copy)]
-struct Numbers {
-    count: usize,
-    values: [u32; NUMBERS_MOST],
+type Numbers = ArrayVec<u32, NUMBERS_MOST>;
+
+// The numbers behind the name, or nothing where a word is no number or there are too many.
+fn read_numbers(line: &[u8]) -> Option<Numbers> {
+    let mut numbers = Numbers::new();
+    for word in line.split(is_blank).skip(1) {
+        numbers.try_push(decimal(word)?).ok()?;
+    }
+    Some(numbers)
 }
 
-// A word, and what stands behind the blank that ends it, if there is one.
-#[derive(Clone, Copy)]
-struct Cut<'a> {
-    word: &'a [u8],
-    behind: Option<&'a [u8]>,
+fn is_blank(b: &u8) -> bool {
+    *b == b' '
 }
 
-fn first_word(text: &[u8]) -> Cut<'_> {
-    for (i, b) in text.iter().enumerate() {
-        if *b == b' ' {
-            return Cut {
-                word: &text[0..i],
-                behind: Some(&text[i + 1..]),
-            };
-        }
-    }
-    Cut {
-        word: text,
-        behind: None,
-    }
-}
-
-// One more digit behind those that said n, if b is a digit and the number stays below 2^32.
-fn append_digit(n: u32, b: u8) -> Option<u32> {
-    if b < b'0' || b > b'9' {
-        return None;
-    }
-    n.checked_mul(10)?.checked_add(u32::from(b - b'0'))
-}
-
-fn decimal(word: &[u8]) -> Option<u32> {
-    if word.is_empty() {
-        return None;
-    }
-    let mut n: u32 = 0;
-    for b in word {
-        n = append_digit(n, *b)?;
-    }
-    Some(n)
-}
-
-// The numbers of a text, or nothing where a word is no number or there are too many.
-fn read_numbers(text: Option<&[u8]>) -> Option<Numbers> {
-    let mut values = [0; NUMBERS_MOST];
-    let mut rest = text;
-    for count in 0..NUMBERS_MOST {
-        let Some(text) = rest else {
-            return Some(Numbers { count, values });
-        };
-        let Cut { word, behind } = first_word(text);
-        values[count] = decimal(word)?;
-        rest = behind;
-    }
-    if rest.is_some() {
-        return None;
-    }
-    Some(Numbers {
-        count: NUMBERS_MOST,
-        values,
-    })
-}
-
-fn bare(name: &[u8]) -> Option<Command> {
-    match name {
-        b"begin" => Some(Command::Call(Call::Begin)),
-        b"mark" => Some(Command::Call(Call::Mark)),
-        b"keepmark" => Some(Command::Call(Call::KeepMark)),
-        b"dropmark" => Some(Command::Call(Call::DropMark)),
-        b"keep" => Some(Command::Call(Call::Keep)),
-        b"drop" => Some(Command::Call(Call::Drop)),
-        b"show" => Some(Command::Show),
-        _ => None,
-    }
-}
-
-fn with_one(name: &[u8], signal: u32) -> Option<Command> {
-    match name {
-        b"input" => Some(Command::Call(Call::Edit(Edit::Input { signal }))),
-        b"delete" => Some(Command::Call(Call::Edit(Edit::Delete { signal }))),
-        _ => None,
-    }
-}
-
-fn with_two(name: &[u8], first: u32, second: u32) -> Option<Command> {
-    match name {
-        b"editor" => Some(Command::Editor(Shape {
-            signals: first,
-            limit: second,
-        })),
-        b"output" => Some(Command::Call(Call::Edit(Edit::Output {
-            signal: first,
-            mark: second,
-        }))),
-        _ => None,
-    }
-}
-
-fn with_three(name: &[u8], signal: u32, second: u32, third: u32) -> Option<Command> {
-    match name {
-        b"latch" => Some(Command::Call(Call::Edit(Edit::Latch {
+fn edit_of(name: &[u8], numbers: &[u32]) -> Option<Edit> {
+    match (name, numbers) {
+        (b"input", &[signal]) => Some(Edit::Input { signal }),
+        (b"delete", &[signal]) => Some(Edit::Delete { signal }),
+        (b"output", &[signal, mark]) => Some(Edit::Output { signal, mark }),
+        (b"latch", &[signal, net, start]) => Some(Edit::Latch { signal, net, start }),
+        (b"move", &[signal, pin, net]) => Some(Edit::Move { signal, pin, net }),
+        (b"gate", &[signal, pins, a, b, c, d, table]) => Some(Edit::Gate {
             signal,
-            net: second,
-            start: third,
-        }))),
-        b"move" => Some(Command::Call(Call::Edit(Edit::Move {
-            signal,
-            pin: second,
-            net: third,
-        }))),
+            pins,
+            nets: [a, b, c, d],
+            table,
+        }),
         _ => None,
     }
 }
 
-fn with_seven(name: &[u8], values: [u32; NUMBERS_MOST]) -> Option<Command> {
-    match name {
-        b"gate" => {
-            let [signal, pins, a, b, c, d, table] = values;
-            Some(Command::Call(Call::Edit(Edit::Gate {
-                signal,
-                pins,
-                nets: [a, b, c, d],
-                table,
-            })))
-        }
-        _ => None,
+fn call_of(name: &[u8], numbers: &[u32]) -> Option<Call> {
+    match (name, numbers) {
+        (b"begin", []) => Some(Call::Begin),
+        (b"mark", []) => Some(Call::Mark),
+        (b"keepmark", []) => Some(Call::KeepMark),
+        (b"dropmark", []) => Some(Call::DropMark),
+        (b"keep", []) => Some(Call::Keep),
+        (b"drop", []) => Some(Call::Drop),
+        _ => edit_of(name, numbers).map(Call::Make),
+    }
+}
+
+fn command_of(name: &[u8], numbers: &[u32]) -> Option<Command> {
+    match (name, numbers) {
+        (b"editor", &[signals, limit]) => Some(Command::Editor(Shape { signals, limit })),
+        (b"show", []) => Some(Command::Show),
+        _ => call_of(name, numbers).map(Command::Call),
     }
 }
 
 // What a line says, or nothing where it is no command.
 pub fn parse(line: &[u8]) -> Option<Command> {
-    let Cut { word, behind } = first_word(line);
-    let Numbers { count, values } = read_numbers(behind)?;
-    match count {
-        0 => bare(word),
-        1 => with_one(word, values[0]),
-        2 => with_two(word, values[0], values[1]),
-        3 => with_three(word, values[0], values[1], values[2]),
-        7 => with_seven(word, values),
-        _ => None,
-    }
+    let name = line.split(is_blank).next()?;
+    let numbers = read_numbers(line)?;
+    command_of(name, numbers.as_slice())
 }

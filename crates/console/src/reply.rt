@@ -22,31 +22,26 @@ pub fn print_reply<S: Store>(
 
 // What is told besides the number of a refusal.
 fn detail<S: Store>(heap: Global, editor: &Editor<S>, refusal: Refusal) -> anyhow::Result<String> {
+    let mut text = String::new(heap);
     match refusal {
         Refusal::Looped => {
-            let signals = numbers_text(heap, editor.loop_shown())?;
-            Ok(format!(in heap; " loop{signals}")?)
+            text.push_str(" loop")?;
+            write_numbers(&mut text, editor.loop_shown())?;
         }
-        Refusal::AbsentInUse => absent_text(heap, editor.missing()),
-        _ => Ok(String::new(heap)),
+        Refusal::AbsentInUse => if let Some(signal) = editor.missing() {
+            write!(text, " absent {signal}")?;
+        },
+        _ => {}
     }
-}
-
-fn absent_text(heap: Global, missing: Option<u32>) -> anyhow::Result<String> {
-    match missing {
-        Some(signal) => Ok(format!(in heap; " absent {signal}")?),
-        None => Ok(String::new(heap)),
-    }
+    Ok(text)
 }
 
 // Each number behind a blank.
-pub fn numbers_text(heap: Global, numbers: &[u32]) -> anyhow::Result<String> {
-    let mut text = String::new(heap);
+pub fn write_numbers(text: &mut String, numbers: &[u32]) -> anyhow::Result<()> {
     for number in numbers {
-        let shown = format!(in heap; " {number}")?;
-        text.push_str(shown.as_str())?;
+        write!(text, " {number}")?;
     }
-    Ok(text)
+    Ok(())
 }
 
 pub fn print_bad(rt: &HostRuntime, line: u64) -> anyhow::Result<()> {
@@ -55,17 +50,8 @@ pub fn print_bad(rt: &HostRuntime, line: u64) -> anyhow::Result<()> {
 }
 
 pub fn print_flags(rt: &HostRuntime, flags: &[u8; 1024]) -> anyhow::Result<()> {
-    if !is_clean(flags) {
+    if flags.iter().any(|flag| *flag != 0) {
         println!(rt; "flags not clean")?;
     }
     Ok(())
-}
-
-fn is_clean(flags: &[u8; 1024]) -> bool {
-    for flag in flags {
-        if *flag != 0 {
-            return false;
-        }
-    }
-    true
 }

@@ -1,17 +1,35 @@
 // The lines that go to one editor, from the one that makes it to the next one that makes another.
-use crate::command::{Call, Command, Shape, parse, takes_flags};
-use crate::desk::Desk;
+use crate::command::{Command, Shape, parse, takes_flags};
 use crate::lines::Lines;
 use crate::reply::{print_bad, print_flags, print_reply};
 use crate::show::show;
-use editor::Editor;
+use desk::Desk;
+use editor::{Call, Editor};
 use netlist::Refusal;
 use std::io::BufRead;
+use std::ops::ControlFlow;
 use words::{InverseLog, Snapshot, Store};
 
 const SIGNALS_MOST: u32 = 1024;
 
 const LEVELS_MOST: u32 = 8;
+
+// The store below the editor.
+#[derive(Clone, Copy)]
+pub enum Bottom {
+    Log,
+    Snapshot,
+}
+
+impl Bottom {
+    // How often the memory has room for the words of a store.
+    fn parts(self, limit: usize) -> usize {
+        match self {
+            Bottom::Log => limit.saturating_mul(3).saturating_add(2),
+            Bottom::Snapshot => limit.saturating_add(1),
+        }
+    }
+}
 
 // How many words the store of an editor has. None where no editor has the shape: its making refuses by itself.
 fn words_of(shape: Shape) -> usize {
@@ -38,49 +56,33 @@ pub fn first_editor<R: BufRead>(
     Ok(None)
 }
 
-pub fn on_log<R: BufRead>(
+// Plays the lines for one editor, and gives the shape of the next one, if the input asks for it.
+pub fn play_one<R: BufRead>(
     rt: &HostRuntime,
+    bottom: Bottom,
     shape: Shape,
     lines: &mut Lines<R>,
 ) -> anyhow::Result<Option<Shape>> {
     let size = words_of(shape);
     let limit = shape.limit as usize;
-    let mut memory = memory(rt, size, 3 * limit + 2)?;
-    play_on(
-        rt,
-        InverseLog::new(&mut memory, size, limit),
-        shape.signals,
-        lines,
-    )
-}
-
-pub fn on_snapshot<R: BufRead>(
-    rt: &HostRuntime,
-    shape: Shape,
-    lines: &mut Lines<R>,
-) -> anyhow::Result<Option<Shape>> {
-    let size = words_of(shape);
-    let limit = shape.limit as usize;
-    let mut memory = memory(rt, size, limit + 1)?;
-    play_on(
-        rt,
-        Snapshot::new(&mut memory, size, limit),
-        shape.signals,
-        lines,
-    )
+    let mut memory = vec![in rt.alloc(); 0u32; size.saturating_mul(bottom.parts(limit))]?;
+    match bottom {
+        Bottom::Log => play_on(rt, InverseLog::new(&mut memory, size, limit), shape, lines),
+        Bottom::Snapshot => play_on(rt, Snapshot::new(&mut memory, size, limit), shape, lines),
+    }
 }
 
 // Makes an editor over a store, says how its test went, and plays the lines for it. A batch that is still open then is dropped.
 fn play_on<S: Store + Drop, R: BufRead>(
     rt: &HostRuntime,
     store: S,
-    signals: u32,
+    shape: Shape,
     lines: &mut Lines<R>,
 ) -> anyhow::Result<Option<Shape>> {
-    let test = Editor::test(&store, signals);
-    let mut desk = Desk::new(store, signals);
+    let test = Editor::test(&store, shape.signals);
+    let mut desk = Desk::new(store, shape.signals);
     let next = play_made(rt, &mut desk, test, lines);
-    desk.close();
+    let _ = desk.close();
     next
 }
 
@@ -90,21 +92,8 @@ fn play_made<S: Store, R: BufRead>(
     test: Result<(), Refusal>,
     lines: &mut Lines<R>,
 ) -> anyhow::Result<Option<Shape>> {
-    print_made(rt, desk.editor(), test)?;
+    print_reply(rt, desk.editor(), test.map(|()| 0))?;
     play_lines(rt, desk, lines)
-}
-
-// Memory of so many parts for a store of so many words.
-fn memory(rt: &HostRuntime, size: usize, parts: usize) -> anyhow::Result<Vec<u32>> {
-    Ok(vec![in rt.alloc(); 0u32; size.saturating_mul(parts)]?)
-}
-
-// What follows a line.
-#[derive(Clone, Copy)]
-enum Next {
-    Line,
-    Editor(Shape),
-    End,
 }
 
 // Plays the lines for an editor. Gives the shape of the next one, if the input asks for it.
@@ -113,66 +102,42 @@ fn play_lines<S: Store, R: BufRead>(
     desk: &mut Desk<S>,
     lines: &mut Lines<R>,
 ) -> anyhow::Result<Option<Shape>> {
-    let mut flags = clean_flags();
+    let mut flags = [0; 1024];
     for _ in 0..u64::MAX {
-        match play_line(rt, desk, lines, &mut flags)? {
-            Next::Line => {}
-            Next::Editor(shape) => return Ok(Some(shape)),
-            Next::End => break,
+        let Some(line) = lines.next_line(rt.alloc())? else {
+            break;
+        };
+        if let ControlFlow::Break(shape) = answer(
+            rt,
+            desk,
+            line.as_slice(),
+            lines.number(),
+            &mut flags,
+        )? {
+            return Ok(Some(shape));
         }
     }
     Ok(None)
 }
 
-fn print_made<S: Store>(
-    rt: &HostRuntime,
-    editor: &Editor<S>,
-    test: Result<(), Refusal>,
-) -> anyhow::Result<()> {
-    match test {
-        Ok(()) => print_reply(rt, editor, Ok(0)),
-        Err(refusal) => print_reply(rt, editor, Err(refusal)),
-    }
-}
-
-fn clean_flags() -> [u8; 1024] {
-    [0; 1024]
-}
-
-// The flags that a call is handed may hold anything.
-fn stale_flags() -> [u8; 1024] {
-    [165; 1024]
-}
-
-// Reads one line and plays it.
-fn play_line<S: Store, R: BufRead>(
-    rt: &HostRuntime,
-    desk: &mut Desk<S>,
-    lines: &mut Lines<R>,
-    flags: &mut [u8; 1024],
-) -> anyhow::Result<Next> {
-    match lines.next_line(rt.alloc())? {
-        Some(line) => answer(rt, desk, line.as_slice(), lines.number(), flags),
-        None => Ok(Next::End),
-    }
-}
-
+// Plays one line, unless it makes the next editor.
 fn answer<S: Store>(
     rt: &HostRuntime,
     desk: &mut Desk<S>,
     line: &[u8],
     number: u64,
     flags: &mut [u8; 1024],
-) -> anyhow::Result<Next> {
+) -> anyhow::Result<ControlFlow<Shape>> {
     match parse(line) {
         Some(Command::Call(call)) => call_editor(rt, desk, call, flags)?,
-        Some(Command::Editor(shape)) => return Ok(Next::Editor(shape)),
+        Some(Command::Editor(shape)) => return Ok(ControlFlow::Break(shape)),
         Some(Command::Show) => show(rt, desk.editor())?,
         None => print_bad(rt, number)?,
     }
-    Ok(Next::Line)
+    Ok(ControlFlow::Continue(()))
 }
 
+// The flags that a call is handed may hold anything.
 fn call_editor<S: Store>(
     rt: &HostRuntime,
     desk: &mut Desk<S>,
@@ -180,21 +145,11 @@ fn call_editor<S: Store>(
     flags: &mut [u8; 1024],
 ) -> anyhow::Result<()> {
     if takes_flags(call) {
-        *flags = stale_flags();
+        *flags = [165; 1024];
     }
     let reply = desk.play(call, flags);
-    print_called(rt, desk.editor(), reply, takes_flags(call), flags)
-}
-
-fn print_called<S: Store>(
-    rt: &HostRuntime,
-    editor: &Editor<S>,
-    reply: Result<u32, Refusal>,
-    flagged: bool,
-    flags: &[u8; 1024],
-) -> anyhow::Result<()> {
-    print_reply(rt, editor, reply)?;
-    if flagged {
+    print_reply(rt, desk.editor(), reply)?;
+    if takes_flags(call) {
         print_flags(rt, flags)?;
     }
     Ok(())

@@ -1,6 +1,6 @@
 // The netlist and the order of an editor, printed.
-use crate::reply::numbers_text;
-use editor::{Editor, Kind, Pins};
+use crate::reply::write_numbers;
+use editor::{Editor, Kind};
 use std::alloc::Global;
 use words::Store;
 
@@ -15,15 +15,11 @@ pub fn show<S: Store>(rt: &HostRuntime, editor: &Editor<S>) -> anyhow::Result<()
 }
 
 fn show_order<S: Store>(rt: &HostRuntime, editor: &Editor<S>) -> anyhow::Result<()> {
-    let heap = rt.alloc();
-    let mut order = Vec::new(heap);
-    for place in 0..editor.signals() {
-        if let Some(signal) = editor.signal_at(place) {
-            order.push(signal)?;
-        }
+    let mut order = String::new(rt.alloc());
+    for signal in (0..editor.signals()).filter_map(|place| editor.signal_at(place)) {
+        write!(order, " {signal}")?;
     }
-    let shown = numbers_text(heap, order.as_slice())?;
-    println!(rt; "order{shown}")?;
+    println!(rt; "order{order}")?;
     Ok(())
 }
 
@@ -34,71 +30,30 @@ fn show_signal<S: Store>(rt: &HostRuntime, editor: &Editor<S>, signal: u32) -> a
     if kind == Kind::Absent && !output {
         return Ok(());
     }
-    let name = kind_name(kind);
     let mark = u32::from(output);
-    let driver = driver_text(rt.alloc(), editor, signal, kind)?;
-    println!(rt; "signal {signal} {name} {mark}{driver}")?;
+    let driver = driver_text(rt.alloc(), editor, signal)?;
+    println!(rt; "signal {signal} {kind} {mark}{driver}")?;
     Ok(())
 }
 
-fn kind_name(kind: Kind) -> &'static str {
-    match kind {
-        Kind::Absent => "absent",
-        Kind::Input => "input",
-        Kind::Gate => "gate",
-        Kind::Latch => "latch",
-    }
-}
-
 // What a gate or a latch has besides its output mark.
-fn driver_text<S: Store>(
-    heap: Global,
-    editor: &Editor<S>,
-    signal: u32,
-    kind: Kind,
-) -> anyhow::Result<String> {
-    let pins = pins_text(heap, editor.pins(signal))?;
-    match kind {
-        Kind::Gate => gate_text(heap, editor, signal, pins.as_str()),
-        Kind::Latch => latch_text(heap, editor, signal, pins.as_str()),
-        _ => Ok(String::new(heap)),
+fn driver_text<S: Store>(heap: Global, editor: &Editor<S>, signal: u32) -> anyhow::Result<String> {
+    let mut text = String::new(heap);
+    if let Some(table) = editor.table(signal) {
+        let bits = table.bits();
+        write!(text, " table {bits} pins")?;
     }
+    if let Some(start) = editor.start(signal) {
+        write!(text, " start {start} pin")?;
+    }
+    write_pins(&mut text, editor, signal)?;
+    Ok(text)
 }
 
-fn gate_text<S: Store>(
-    heap: Global,
-    editor: &Editor<S>,
-    signal: u32,
-    pins: &str,
-) -> anyhow::Result<String> {
-    match editor.table(signal) {
-        Some(table) => {
-            let bits = table.bits();
-            Ok(format!(in heap; " table {bits} pins{pins}")?)
-        }
-        None => Ok(String::new(heap)),
+// The signals that the pins are on.
+fn write_pins<S: Store>(text: &mut String, editor: &Editor<S>, signal: u32) -> anyhow::Result<()> {
+    if let Some(pins) = editor.pins(signal) {
+        write_numbers(text, pins.as_slice())?;
     }
-}
-
-fn latch_text<S: Store>(
-    heap: Global,
-    editor: &Editor<S>,
-    signal: u32,
-    pins: &str,
-) -> anyhow::Result<String> {
-    match editor.start(signal) {
-        Some(start) => Ok(format!(in heap; " start {start} pin{pins}")?),
-        None => Ok(String::new(heap)),
-    }
-}
-
-// The signals that the pins are on, each behind a blank.
-fn pins_text(heap: Global, pins: Option<Pins>) -> anyhow::Result<String> {
-    match pins {
-        Some(pins) => {
-            let nets = pins.nets;
-            numbers_text(heap, &nets[0..pins.count.min(4) as usize])
-        }
-        None => Ok(String::new(heap)),
-    }
+    Ok(())
 }

@@ -2,11 +2,9 @@ mod Alike
 mod Batches
 mod Calling
 mod Emptied
-pub mod Holding
 mod Instance
 mod Laid
 pub mod Led
-pub mod Open
 mod Pinned
 mod Rotation
 mod Room

@@ -1,5 +1,6 @@
-// Calls on an editor, and what is replied.
-use netlist::Edit;
+// A call to be tried, and what it has to reply.
+use editor::Call;
+use netlist::Refusal;
 
 // M and D of an editor.
 #[derive(Clone, Copy)]
@@ -8,53 +9,23 @@ pub struct Shape {
     pub limit: usize,
 }
 
-// The numbers of an edit stand as in the call of its name.
-#[derive(Clone, Copy, Debug)]
-pub enum Call {
-    Begin,
-    Mark,
-    KeepMark,
-    DropMark,
-    Keep,
-    Drop,
-    Input(u32),
-    Output(u32, u32),
-    Gate(u32, u32, [u32; 4], u32),
-    Latch(u32, u32, u32),
-    Delete(u32),
-    Move(u32, u32, u32),
-}
+// The count, which is 0 for a call that has none.
+pub type Reply = Result<u32, Refusal>;
 
-impl Call {
-    // The edit that a call asks for, if it asks for one.
-    pub fn edit(self) -> Option<Edit> {
-        match self {
-            Call::Input(signal) => Some(Edit::Input { signal }),
-            Call::Output(signal, mark) => Some(Edit::Output { signal, mark }),
-            Call::Gate(signal, pins, nets, table) => Some(Edit::Gate {
-                signal,
-                pins,
-                nets,
-                table,
-            }),
-            Call::Latch(signal, net, start) => Some(Edit::Latch { signal, net, start }),
-            Call::Delete(signal) => Some(Edit::Delete { signal }),
-            Call::Move(signal, pin, net) => Some(Edit::Move { signal, pin, net }),
-            _ => None,
-        }
-    }
-}
+// The reply that is written down, a refusal by the number that the rules give it.
+pub type Expected = Result<u32, u32>;
 
-// The count, which is 0 for a call that has none, or the number of the refusal.
-#[derive(Clone, Copy, PartialEq, Eq, Debug)]
-pub enum Reply {
-    Count(u32),
-    Refused(u32),
-}
-
-// A call to be tried, and the reply that it has to give, where that is written down.
 #[derive(Clone, Copy)]
 pub struct Step {
     pub call: Call,
-    pub expected: Option<Reply>,
+    // if it is written down
+    pub expected: Option<Expected>,
+}
+
+impl Step {
+    // Whether a reply is the one that is written down, if one is.
+    pub fn meets(self, reply: Reply) -> bool {
+        self.expected
+            .is_none_or(|expected| reply.map_err(Refusal::number) == expected)
+    }
 }

@@ -1,41 +1,68 @@
 // What an editor tells, against the model.
 use crate::model::Model;
 use crate::plain_board::{Board, Driver, Gate, Latch, Signal, is_loop, missing};
-use editor::{Editor, Kind, Pins};
+use editor::{Editor, Kind};
+use std::fmt::{self, Display, Formatter, Write};
 use words::Store;
 
 // The first thing in which an editor differs from the model.
-pub fn difference<S: Store>(editor: &Editor<S>, model: &Model) -> Option<&'static str> {
-    if editor.signals() != model.signals || !tells_nothing(editor, model.signals) {
-        return Some("the number of signals");
+#[derive(Clone, Copy)]
+pub enum Difference {
+    // the model does not reply what is written down
+    Model,
+    Reply,
+    Flags,
+    Signals,
+    Levels,
+    Order,
+    Netlist,
+    Missing,
+    Loop,
+}
+
+impl Display for Difference {
+    fn fmt<W: Write>(&self, f: &mut Formatter<W>) -> fmt::Result {
+        f.write_str(match self {
+            Difference::Model => "the model",
+            Difference::Reply => "the reply",
+            Difference::Flags => "a flag left set",
+            Difference::Signals => "the number of signals",
+            Difference::Levels => "the levels",
+            Difference::Order => "the order",
+            Difference::Netlist => "the netlist",
+            Difference::Missing => "the absent signal in use",
+            Difference::Loop => "the loop shown",
+        })
     }
-    if !same_levels(editor, model.levels()) {
-        return Some("the levels");
-    }
-    if !same_order(editor, model.board.order.as_slice()) {
-        return Some("the order");
-    }
-    if !same_signals(editor, model.board.signals.as_slice()) {
-        return Some("the netlist");
-    }
-    if editor.missing() != missing(model.board.signals.as_slice()) {
-        return Some("the absent signal in use");
-    }
-    if !same_loop(editor, &model.looped) {
-        return Some("the loop shown");
-    }
-    None
+}
+
+pub fn ensure<E: Drop>(holds: bool, otherwise: E) -> Result<(), E> {
+    if holds { Ok(()) } else { Err(otherwise) }
+}
+
+pub fn compare<S: Store>(editor: &Editor<S>, model: &Model) -> Result<(), Difference> {
+    let board = &model.board;
+    ensure(same_size(editor, model.signals), Difference::Signals)?;
+    ensure(same_levels(editor, model.levels()), Difference::Levels)?;
+    ensure(same_order(editor, &board.order), Difference::Order)?;
+    ensure(same_signals(editor, &board.signals), Difference::Netlist)?;
+    ensure(
+        editor.missing() == missing(&board.signals),
+        Difference::Missing,
+    )?;
+    ensure(same_loop(editor, &model.looped), Difference::Loop)
 }
 
 // Behind the last signal there is nothing to tell.
-fn tells_nothing<S: Store>(editor: &Editor<S>, signal: u32) -> bool {
-    editor.kind(signal).is_none()
-        && editor.output_mark(signal).is_none()
-        && editor.pins(signal).is_none()
-        && editor.table(signal).is_none()
-        && editor.start(signal).is_none()
-        && editor.place(signal).is_none()
-        && editor.signal_at(signal).is_none()
+fn same_size<S: Store>(editor: &Editor<S>, signals: u32) -> bool {
+    editor.signals() == signals
+        && editor.kind(signals).is_none()
+        && editor.output_mark(signals).is_none()
+        && editor.pins(signals).is_none()
+        && editor.table(signals).is_none()
+        && editor.start(signals).is_none()
+        && editor.place(signals).is_none()
+        && editor.signal_at(signals).is_none()
 }
 
 fn same_levels<S: Store>(editor: &Editor<S>, levels: usize) -> bool {
@@ -45,12 +72,9 @@ fn same_levels<S: Store>(editor: &Editor<S>, levels: usize) -> bool {
 }
 
 fn same_order<S: Store>(editor: &Editor<S>, order: &[u32]) -> bool {
-    for (place, signal) in order.iter().enumerate() {
-        if !stands_at(editor, *signal, place.min(1024) as u32) {
-            return false;
-        }
-    }
-    true
+    (0..editor.signals())
+        .zip(order)
+        .all(|(place, signal)| stands_at(editor, *signal, place))
 }
 
 pub fn stands_at<S: Store>(editor: &Editor<S>, signal: u32, place: u32) -> bool {
@@ -58,12 +82,9 @@ pub fn stands_at<S: Store>(editor: &Editor<S>, signal: u32, place: u32) -> bool 
 }
 
 fn same_signals<S: Store>(editor: &Editor<S>, signals: &[Signal]) -> bool {
-    for (number, signal) in signals.iter().enumerate() {
-        if !same_signal(editor, number.min(1024) as u32, *signal) {
-            return false;
-        }
-    }
-    true
+    (0..editor.signals())
+        .zip(signals)
+        .all(|(number, signal)| same_signal(editor, number, *signal))
 }
 
 fn same_signal<S: Store>(editor: &Editor<S>, number: u32, signal: Signal) -> bool {
@@ -73,53 +94,37 @@ fn same_signal<S: Store>(editor: &Editor<S>, number: u32, signal: Signal) -> boo
     match signal.driver {
         Driver::Absent => is_kind(editor, number, Kind::Absent),
         Driver::Input => is_kind(editor, number, Kind::Input),
-        Driver::Gate(gate) => is_kind(editor, number, Kind::Gate)
-            && same_gate(editor, number, gate),
+        Driver::Gate(gate) => {
+            is_kind(editor, number, Kind::Gate) && same_gate(editor, number, gate)
+        }
         Driver::Latch(latch) => {
             is_kind(editor, number, Kind::Latch) && same_latch(editor, number, latch)
         }
     }
 }
 
-fn is_kind<S: Store>(editor: &Editor<S>, number: u32, kind: Kind) -> bool {
-    match editor.kind(number) {
-        Some(told) => told == kind,
-        None => false,
-    }
+pub fn is_kind<S: Store>(editor: &Editor<S>, number: u32, kind: Kind) -> bool {
+    editor.kind(number) == Some(kind)
 }
 
 fn same_gate<S: Store>(editor: &Editor<S>, number: u32, gate: Gate) -> bool {
-    match (editor.pins(number), editor.table(number)) {
-        (Some(pins), Some(table)) => {
-            same_pins(pins, gate.pins, gate.nets)
-                && table.pins() == gate.pins
-                && table.bits() == gate.table
-        }
-        _ => false,
-    }
+    editor.table(number).is_some_and(|table| table.pins() == gate.pins
+        && table.bits() == gate.table)
+        && editor
+            .pins(number)
+            .is_some_and(|pins| pins.as_slice() == gate.on())
 }
 
 fn same_latch<S: Store>(editor: &Editor<S>, number: u32, latch: Latch) -> bool {
-    let nets = [latch.net, 0, 0, 0];
-    match editor.pins(number) {
-        Some(pins) => same_pins(pins, 1, nets) && editor.start(number) == Some(latch.start),
-        None => false,
-    }
-}
-
-fn same_pins(pins: Pins, count: u32, nets: [u32; 4]) -> bool {
-    let told = pins.nets;
-    for (i, net) in nets.iter().enumerate() {
-        if i < count as usize && told[i] != *net {
-            return false;
-        }
-    }
-    pins.count == count
+    editor.start(number) == Some(latch.start)
+        && editor
+            .pins(number)
+            .is_some_and(|pins| pins.as_slice() == &[latch.net])
 }
 
 fn same_loop<S: Store>(editor: &Editor<S>, looped: &Option<Board>) -> bool {
     match looped {
-        Some(board) => is_loop(board.signals.as_slice(), editor.loop_shown()),
+        Some(board) => is_loop(&board.signals, editor.loop_shown()),
         None => editor.loop_shown().is_empty(),
     }
 }

@@ -1,35 +1,34 @@
 // Editors over both stores against the rules on plain lists: tables of calls, edges, and random runs.
 #![tactic(auto)]
 
-mod both;
 mod call;
 mod chain;
 mod compare;
-mod desk;
 mod makings;
 mod model;
+mod outcome;
 mod plain_board;
 mod plain_places;
 mod plan;
 mod play;
-mod report;
-mod stores;
 mod tables;
 mod tickets;
 mod trial;
 
 use anyhow::anyhow;
-use both::{try_on_log, try_on_snapshot};
 use call::Shape;
 use chain::try_chains;
 use makings::try_makings;
+use outcome::Outcome;
 use plan::{Random, Row, Table};
+use play::Way;
 use std::alloc::Global;
+use std::collections::BTreeMap;
 use tables::{
     ABSENT, FOUR_PINS, MOST, NO_MARK, NONE, REFUSALS, SIX_MARKS, SMALLEST, TAKEN_BACK, WORKED,
 };
 use tickets::try_tickets;
-use trial::{Trial, try_model};
+use trial::{Trial, try_model, try_on_both};
 
 const SEEDS: u32 = 24;
 
@@ -45,16 +44,15 @@ fn try_table(
 ) -> anyhow::Result<bool> {
     let shape = Shape { signals, limit };
     let model = model_meets(rt.alloc(), shape, rows)?;
-    let log = try_on_log(rt, shape, Table::new(rows), true)?.good
-        && try_on_log(rt, shape, Table::new(rows), false)?.good;
-    let snapshot = try_on_snapshot(rt, shape, Table::new(rows), true)?.good
-        && try_on_snapshot(rt, shape, Table::new(rows), false)?.good;
-    print_table(rt, name, shape, rows.len(), model, log, snapshot)?;
-    Ok(model && log && snapshot)
+    let named = try_on_both(rt, shape, Table(rows), Way::Named)?.outcome();
+    let any = try_on_both(rt, shape, Table(rows), Way::Any)?.outcome();
+    let outcome = named.and(any);
+    print_table(rt, name, shape, rows.len(), model, outcome)?;
+    Ok(model && outcome.good())
 }
 
 fn model_meets(heap: Global, shape: Shape, rows: &[Row]) -> anyhow::Result<bool> {
-    Ok(try_model(heap, shape, Table::new(rows))?)
+    Ok(try_model(heap, shape, Table(rows))?)
 }
 
 fn print_table(
@@ -63,14 +61,10 @@ fn print_table(
     shape: Shape,
     calls: usize,
     model: bool,
-    log: bool,
-    snapshot: bool,
+    outcome: Outcome,
 ) -> anyhow::Result<()> {
-    let signals = shape.signals;
-    let limit = shape.limit;
-    println!(rt;
-        "{name}: M {signals}, D {limit}, {calls} calls: model {model}, inverse log {log}, snapshot {snapshot}"
-    )?;
+    let Shape { signals, limit } = shape;
+    println!(rt; "{name}: M {signals}, D {limit}, {calls} calls: model {model}, {outcome}")?;
     Ok(())
 }
 
@@ -98,35 +92,34 @@ fn try_seed(rt: &HostRuntime, seed: u32) -> anyhow::Result<bool> {
         signals: seed,
         limit: 2 + (seed % 7) as usize,
     };
-    let by_name = seed % 2 == 0;
-    let log = try_on_log(rt, shape, Random::new(seed, CALLS), by_name)?;
-    let snapshot = try_on_snapshot(rt, shape, Random::new(seed, CALLS), by_name)?;
-    print_seed(rt, shape, &log, snapshot.good)?;
-    Ok(log.good && snapshot.good)
+    let way = if seed % 2 == 0 { Way::Named } else { Way::Any };
+    let trials = try_on_both(rt, shape, Random::new(seed, CALLS), way)?;
+    print_seed(rt, shape, &trials.log, trials.outcome())?;
+    Ok(trials.outcome().good())
 }
 
-fn print_seed(rt: &HostRuntime, shape: Shape, trial: &Trial, snapshot: bool) -> anyhow::Result<()> {
-    let signals = shape.signals;
-    let limit = shape.limit;
+fn print_seed(
+    rt: &HostRuntime,
+    shape: Shape,
+    trial: &Trial,
+    outcome: Outcome,
+) -> anyhow::Result<()> {
+    let Shape { signals, limit } = shape;
     let calls = trial.calls();
     let accepted = trial.accepted;
     let moved = trial.moved;
     let refused = refused_text(rt.alloc(), &trial.refused)?;
-    let log = trial.good;
     println!(rt;
-        "random: M {signals}, D {limit}, {calls} calls: {accepted} accepted, {moved} moved; refused{refused}; inverse log {log}, snapshot {snapshot}"
+        "random: M {signals}, D {limit}, {calls} calls: {accepted} accepted, {moved} moved; refused{refused}; {outcome}"
     )?;
     Ok(())
 }
 
 // Each number that was given, and how many times.
-fn refused_text(heap: Global, refused: &[u32; 26]) -> anyhow::Result<String> {
+fn refused_text(heap: Global, refused: &BTreeMap<u32, u32>) -> anyhow::Result<String> {
     let mut text = String::new(heap);
-    for (number, count) in refused.iter().enumerate() {
-        if *count > 0 {
-            let shown = format!(in heap; " {number} x {count}")?;
-            text.push_str(shown.as_str())?;
-        }
+    for (number, count) in refused {
+        write!(text, " {number} x {count}")?;
     }
     Ok(text)
 }
@@ -138,15 +131,10 @@ fn try_random(rt: &HostRuntime) -> anyhow::Result<bool> {
             differing = differing.saturating_add(1);
         }
     }
-    print_random(rt, differing)?;
-    Ok(differing == 0)
-}
-
-fn print_random(rt: &HostRuntime, differing: u32) -> anyhow::Result<()> {
     println!(rt;
         "random: {SEEDS} runs over both stores, {differing} with a difference from the model"
     )?;
-    Ok(())
+    Ok(differing == 0)
 }
 
 fn run(rt: &HostRuntime) -> anyhow::Result<()> {

@@ -1,8 +1,10 @@
 // Which stores and numbers of signals serve an editor.
-use crate::report::report;
-use crate::stores::{log_memory, snapshot_memory};
+use crate::outcome::Outcome;
 use editor::Editor;
-use words::{InverseLog, Snapshot, Store};
+use memory::Memory;
+use netlist::Refusal;
+use std::alloc::Global;
+use words::Store;
 
 // An editor to be made: over how many words, with how many levels open, and whether it serves.
 #[derive(Clone, Copy)]
@@ -71,41 +73,33 @@ fn is_made<S: Store + Drop>(store: S, making: Making) -> bool {
         let _ = store.open_level();
     }
     let _ = store.set(0, 5);
-    let number = match Editor::test(&store, making.signals) {
-        Ok(()) => 0,
-        Err(refusal) => refusal.number(),
-    };
+    let test = Editor::test(&store, making.signals);
     let editor = Editor::new(store, making.signals);
     if making.serves {
-        number == 0 && editor.signals() == making.signals
+        test == Ok(()) && editor.signals() == making.signals
     } else {
-        number == 1 && editor.signals() == 0
+        test.map_err(Refusal::number) == Err(1) && editor.signals() == 0
     }
 }
 
-fn is_made_on_log(rt: &HostRuntime, making: Making) -> anyhow::Result<bool> {
-    let mut memory = log_memory(rt.alloc(), making.size, 2)?;
-    let store = InverseLog::new(&mut memory, making.size, 2);
-    Ok(is_made(store, making))
-}
-
-fn is_made_on_snapshot(rt: &HostRuntime, making: Making) -> anyhow::Result<bool> {
-    let mut memory = snapshot_memory(rt.alloc(), making.size, 2)?;
-    let store = Snapshot::new(&mut memory, making.size, 2);
-    Ok(is_made(store, making))
+fn is_made_on_both(heap: Global, making: Making) -> anyhow::Result<Outcome> {
+    let mut memory = Memory::new(heap, making.size, 2, 7)?;
+    Ok(Outcome {
+        log: is_made(memory.log(), making),
+        snapshot: is_made(memory.snapshot(), making),
+    })
 }
 
 pub fn try_makings(rt: &HostRuntime) -> anyhow::Result<bool> {
-    let mut log = true;
-    let mut snapshot = true;
+    let mut outcome = Outcome {
+        log: true,
+        snapshot: true,
+    };
     for making in &MAKINGS {
-        log = is_made_on_log(rt, *making)? && log;
-        snapshot = is_made_on_snapshot(rt, *making)? && snapshot;
+        outcome = outcome.and(is_made_on_both(rt.alloc(), *making)?);
     }
-    report(
+    outcome.report(
         rt,
         "makings: M 1 and 1024 serve; M 0 and 1025, a word too few, a level open give 1",
-        log,
-        snapshot,
     )
 }

@@ -1,9 +1,30 @@
 // The rules of the editor on plain lists: a level is a copy of the whole board.
-use crate::call::{Call, Reply, Shape};
-use crate::plain_board::{Board, Driver, Gate, Latch, in_use, is_absent, missing, pin_count};
+use crate::call::{Reply, Shape};
+use crate::compare::ensure;
+use crate::plain_board::{Board, Driver, Gate, Latch, in_use, missing};
 use crate::plain_places::put;
-use netlist::Edit;
+use editor::Call;
+use netlist::{Edit, Refusal};
 use std::alloc::{AllocError, Global};
+
+// Why a call is not played to its end.
+#[derive(Clone, Copy)]
+enum Fault {
+    Refused(Refusal),
+    NoMemory(AllocError),
+}
+
+impl From<Refusal> for Fault {
+    fn from(refusal: Refusal) -> Fault {
+        Fault::Refused(refusal)
+    }
+}
+
+impl From<AllocError> for Fault {
+    fn from(error: AllocError) -> Fault {
+        Fault::NoMemory(error)
+    }
+}
 
 #[derive(Drop)]
 pub struct Model {
@@ -34,180 +55,141 @@ impl Model {
     }
 
     pub fn play(&mut self, heap: Global, call: Call) -> Result<Reply, AllocError> {
-        if let Some(edit) = call.edit() {
-            self.looped = None;
+        match self.call(heap, call) {
+            Ok(count) => Ok(Ok(count)),
+            Err(Fault::Refused(refusal)) => Ok(Err(refusal)),
+            Err(Fault::NoMemory(error)) => Err(error),
+        }
+    }
+
+    fn call(&mut self, heap: Global, call: Call) -> Result<u32, Fault> {
+        if let Call::Make(edit) = call {
             return self.edit(heap, edit);
         }
-        if let Some(number) = self.refusal(call) {
-            return Ok(Reply::Refused(number));
-        }
+        self.admits(call)?;
         match call {
             Call::Begin | Call::Mark => self.open_level()?,
-            Call::KeepMark | Call::Keep => self.close_level(false),
-            Call::DropMark => self.close_level(true),
-            _ => self.drop_all(),
+            Call::KeepMark | Call::Keep => {
+                let _ = self.saved.pop();
+            }
+            Call::DropMark => self.take_back(),
+            Call::Drop | Call::Make(_) => {
+                self.saved.truncate(1);
+                self.take_back();
+            }
         }
-        Ok(Reply::Count(0))
+        Ok(0)
     }
 
     fn open_level(&mut self) -> Result<(), AllocError> {
-        let copy = self.board.copy()?;
+        let copy = self.board.clone()?;
         self.saved.push(copy)?;
         Ok(())
     }
 
-    fn close_level(&mut self, back: bool) {
+    // The board is again as when the newest level was opened.
+    fn take_back(&mut self) {
         if let Some(board) = self.saved.pop() {
-            if back {
-                self.board = board;
-            }
+            self.board = board;
         }
     }
 
-    fn drop_all(&mut self) {
-        for _ in 0..self.saved.len() {
-            self.close_level(true);
+    // Refused by the smallest number that applies to a call that is no edit.
+    fn admits(&self, call: Call) -> Result<(), Refusal> {
+        ensure(self.signals > 0, Refusal::NoEditor)?;
+        if let Call::Begin = call {
+            return ensure(self.levels() == 0, Refusal::BatchOpen);
         }
-    }
-
-    // The smallest number that applies to a call that is no edit.
-    fn refusal(&self, call: Call) -> Option<u32> {
-        if self.signals == 0 {
-            return Some(1);
-        }
+        ensure(self.levels() > 0, Refusal::NoBatch)?;
         match call {
-            Call::Begin => if self.levels() > 0 { Some(11) } else { None },
-            _ if self.levels() == 0 => Some(10),
-            Call::Mark => if self.levels().saturating_add(1) >= self.limit {
-                Some(20)
-            } else {
-                None
-            },
-            Call::KeepMark | Call::DropMark => if self.levels() < 2 { Some(21) } else { None },
-            Call::Keep => self.keep_refusal(),
-            _ => None,
+            Call::Mark => ensure(
+                self.levels().saturating_add(1) < self.limit,
+                Refusal::NoLevelForMark,
+            ),
+            Call::KeepMark | Call::DropMark => ensure(self.levels() > 1, Refusal::NoMark),
+            Call::Keep => self.admits_keep(),
+            _ => Ok(()),
         }
     }
 
-    fn keep_refusal(&self) -> Option<u32> {
-        if self.levels() > 1 {
-            return Some(22);
-        }
-        match missing(self.board.signals.as_slice()) {
-            Some(_) => Some(24),
-            None => None,
-        }
+    fn admits_keep(&self) -> Result<(), Refusal> {
+        ensure(self.levels() < 2, Refusal::MarkOpen)?;
+        ensure(missing(&self.board.signals).is_none(), Refusal::AbsentInUse)
     }
 
-    fn edit(&mut self, heap: Global, edit: Edit) -> Result<Reply, AllocError> {
-        if let Some(number) = self.edit_refusal(edit) {
-            return Ok(Reply::Refused(number));
-        }
-        let mut asked = self.board.copy()?;
-        match change(heap, &mut asked, edit)? {
-            Some(count) => {
-                self.board = asked;
-                Ok(Reply::Count(count))
-            }
-            None => {
-                self.looped = Some(asked);
-                Ok(Reply::Refused(25))
-            }
-        }
+    fn edit(&mut self, heap: Global, edit: Edit) -> Result<u32, Fault> {
+        self.looped = None;
+        self.admits_edit(edit)?;
+        let mut asked = self.board.clone()?;
+        let Some(count) = change(heap, &mut asked, edit)? else {
+            self.looped = Some(asked);
+            return Err(Fault::Refused(Refusal::Looped));
+        };
+        self.board = asked;
+        Ok(count)
     }
 
-    // The smallest number below 25 that applies to an edit.
-    fn edit_refusal(&self, edit: Edit) -> Option<u32> {
-        if self.signals == 0 {
-            return Some(1);
-        }
-        if self.levels() == 0 {
-            return Some(10);
-        }
-        if names_outside(edit, self.signals) {
-            return Some(12);
-        }
-        if is_out_of_range(edit) {
-            return Some(13);
-        }
-        self.state_refusal(edit)
+    // Refused by the smallest number below 25 that applies to an edit.
+    fn admits_edit(&self, edit: Edit) -> Result<(), Refusal> {
+        ensure(self.signals > 0, Refusal::NoEditor)?;
+        ensure(self.levels() > 0, Refusal::NoBatch)?;
+        ensure(names_inside(edit, self.signals), Refusal::NoSuchSignal)?;
+        ensure(is_in_range(edit), Refusal::OutOfRange)?;
+        self.admits_for(edit)
     }
 
-    // The smallest number that applies for what the signal is.
-    fn state_refusal(&self, edit: Edit) -> Option<u32> {
+    // Refused by the smallest number that applies for what the signal is.
+    fn admits_for(&self, edit: Edit) -> Result<(), Refusal> {
         match edit {
-            Edit::Input { signal } => self.driven_refusal(signal),
-            Edit::Gate { signal, .. } => self.driven_refusal(signal),
-            Edit::Latch { signal, .. } => self.driven_refusal(signal),
-            Edit::Output { .. } => None,
-            Edit::Delete { signal } => self.delete_refusal(signal),
-            Edit::Move { signal, pin, .. } => self.move_refusal(signal, pin),
+            Edit::Input { signal } | Edit::Gate { signal, .. } | Edit::Latch { signal, .. } => {
+                ensure(self.board.driver(signal) == Driver::Absent, Refusal::Driven)
+            }
+            Edit::Output { .. } => Ok(()),
+            Edit::Delete { signal } => self.admits_delete(signal),
+            Edit::Move { signal, pin, .. } => self.admits_move(signal, pin),
         }
     }
 
-    fn driven_refusal(&self, signal: u32) -> Option<u32> {
-        if is_absent(self.board.signal(signal).driver) {
-            None
-        } else {
-            Some(14)
-        }
+    fn admits_delete(&self, signal: u32) -> Result<(), Refusal> {
+        ensure(
+            self.board.driver(signal) != Driver::Absent,
+            Refusal::NotDriven,
+        )?;
+        ensure(!in_use(&self.board.signals, signal), Refusal::InUse)
     }
 
-    fn delete_refusal(&self, signal: u32) -> Option<u32> {
-        if is_absent(self.board.signal(signal).driver) {
-            return Some(15);
-        }
-        if in_use(self.board.signals.as_slice(), signal) {
-            return Some(19);
-        }
-        None
-    }
-
-    fn move_refusal(&self, signal: u32, pin: u32) -> Option<u32> {
-        let driver = self.board.signal(signal).driver;
-        match driver {
-            Driver::Absent | Driver::Input => Some(15),
-            _ => if pin >= pin_count(driver) {
-                Some(16)
-            } else {
-                None
-            },
-        }
+    fn admits_move(&self, signal: u32, pin: u32) -> Result<(), Refusal> {
+        let driver = self.board.driver(signal);
+        let has_pins = matches!(driver, Driver::Gate(_) | Driver::Latch(_));
+        ensure(has_pins, Refusal::NotDriven)?;
+        ensure(pin < driver.pin_count(), Refusal::NoSuchPin)
     }
 }
 
-// Whether a signal or a net that counts is not below M.
-fn names_outside(edit: Edit, signals: u32) -> bool {
+// Whether each signal and each net that counts is below M.
+fn names_inside(edit: Edit, signals: u32) -> bool {
     match edit {
-        Edit::Input { signal } => signal >= signals,
-        Edit::Output { signal, .. } => signal >= signals,
-        Edit::Delete { signal } => signal >= signals,
-        Edit::Latch { signal, net, .. } => signal >= signals || net >= signals,
-        Edit::Move { signal, net, .. } => signal >= signals || net >= signals,
+        Edit::Input { signal } | Edit::Output { signal, .. } | Edit::Delete { signal } => {
+            signal < signals
+        }
+        Edit::Latch { signal, net, .. } | Edit::Move { signal, net, .. } => {
+            signal < signals && net < signals
+        }
         Edit::Gate {
             signal,
             pins,
             nets,
             ..
-        } => signal >= signals || nets_outside(nets, pins, signals),
+        } => signal < signals && nets.iter().take(pins as usize).all(|net| *net < signals),
     }
 }
 
-fn nets_outside(nets: [u32; 4], pins: u32, signals: u32) -> bool {
-    for (i, net) in nets.iter().enumerate() {
-        if i < pins as usize && *net >= signals {
-            return true;
-        }
-    }
-    false
-}
-
-fn is_out_of_range(edit: Edit) -> bool {
+fn is_in_range(edit: Edit) -> bool {
     match edit {
-        Edit::Output { mark, .. } => mark > 1,
-        Edit::Gate { pins, table, .. } => pins > 4 || table >= table_limit(pins),
-        Edit::Latch { start, .. } => start > 3,
-        _ => false,
+        Edit::Output { mark, .. } => mark <= 1,
+        Edit::Gate { pins, table, .. } => pins <= 4 && table < table_limit(pins),
+        Edit::Latch { start, .. } => start <= 3,
+        _ => true,
     }
 }
 
@@ -250,13 +232,11 @@ fn add_gate(
 ) -> Result<Option<u32>, AllocError> {
     board.set_driver(signal, Driver::Gate(gate));
     let mut sum: u32 = 0;
-    for (i, net) in gate.nets.iter().enumerate() {
-        if i < gate.pins as usize {
-            let Some(count) = put(heap, board, signal, *net)? else {
-                return Ok(None);
-            };
-            sum = sum.saturating_add(count);
-        }
+    for net in gate.on() {
+        let Some(count) = put(heap, board, signal, *net)? else {
+            return Ok(None);
+        };
+        sum = sum.saturating_add(count);
     }
     Ok(Some(sum))
 }
@@ -268,32 +248,19 @@ fn move_pin(
     pin: u32,
     net: u32,
 ) -> Result<Option<u32>, AllocError> {
-    match board.signal(signal).driver {
+    match board.driver(signal) {
         Driver::Gate(gate) => {
             let mut nets = gate.nets;
-            if pin < 4 {
-                nets[pin as usize] = net;
+            if let Some(on) = nets.get_mut(pin as usize) {
+                *on = net;
             }
-            board.set_driver(
-                signal,
-                Driver::Gate(Gate {
-                    pins: gate.pins,
-                    nets,
-                    table: gate.table,
-                }),
-            );
+            board.set_driver(signal, Driver::Gate(Gate { nets, ..gate }));
             put(heap, board, signal, net)
         }
         Driver::Latch(latch) => {
-            board.set_driver(
-                signal,
-                Driver::Latch(Latch {
-                    net,
-                    start: latch.start,
-                }),
-            );
+            board.set_driver(signal, Driver::Latch(Latch { net, ..latch }));
             Ok(Some(0))
         }
-        _ => Ok(Some(0)),
+        Driver::Absent | Driver::Input => Ok(Some(0)),
     }
 }

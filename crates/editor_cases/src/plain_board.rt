@@ -1,7 +1,8 @@
 // A netlist and its order as plain lists, written apart from the editor, to compare it with.
 use std::alloc::{AllocError, Global};
+use std::iter;
 
-#[derive(Clone, Copy)]
+#[derive(Clone, Copy, PartialEq, Eq)]
 pub enum Driver {
     Absent,
     Input,
@@ -9,14 +10,14 @@ pub enum Driver {
     Latch(Latch),
 }
 
-#[derive(Clone, Copy)]
+#[derive(Clone, Copy, PartialEq, Eq)]
 pub struct Gate {
     pub pins: u32,
     pub nets: [u32; 4],
     pub table: u32,
 }
 
-#[derive(Clone, Copy)]
+#[derive(Clone, Copy, PartialEq, Eq)]
 pub struct Latch {
     pub net: u32,
     pub start: u32,
@@ -29,7 +30,7 @@ pub struct Signal {
 }
 
 // The order lists the signal at each place.
-#[derive(Drop)]
+#[derive(Clone, Drop)]
 pub struct Board {
     pub signals: Vec<Signal>,
     pub order: Vec<u32>,
@@ -40,22 +41,44 @@ const UNDRIVEN: Signal = Signal {
     output: false,
 };
 
-impl Board {
-    pub fn empty(heap: Global, count: u32) -> Result<Board, AllocError> {
-        let mut order = Vec::new(heap);
-        for signal in 0..count {
-            order.push(signal)?;
+impl Gate {
+    // The nets that its pins are on.
+    pub fn on(&self) -> &[u32] {
+        &self.nets[..self.pins.min(4) as usize]
+    }
+}
+
+impl Driver {
+    // Whether a signal feeds what is driven so: a latch is fed by nothing.
+    pub fn is_fed_by(&self, signal: u32) -> bool {
+        match self {
+            Driver::Gate(gate) => gate.on().contains(&signal),
+            _ => false,
         }
-        Ok(Board {
-            signals: vec![in heap; UNDRIVEN; count as usize]?,
-            order,
-        })
     }
 
-    pub fn copy(&self) -> Result<Board, AllocError> {
+    // Whether a pin of what is driven so is on a signal.
+    fn has_pin_on(&self, signal: u32) -> bool {
+        match self {
+            Driver::Latch(latch) => latch.net == signal,
+            _ => self.is_fed_by(signal),
+        }
+    }
+
+    pub fn pin_count(&self) -> u32 {
+        match self {
+            Driver::Gate(gate) => gate.pins,
+            Driver::Latch(_) => 1,
+            Driver::Absent | Driver::Input => 0,
+        }
+    }
+}
+
+impl Board {
+    pub fn empty(heap: Global, count: u32) -> Result<Board, AllocError> {
         Ok(Board {
-            signals: self.signals.clone()?,
-            order: self.order.clone()?,
+            signals: vec![in heap; UNDRIVEN; count as usize]?,
+            order: (0..count).collect(heap)?,
         })
     }
 
@@ -71,81 +94,29 @@ impl Board {
         }
     }
 
-    pub fn signal(&self, signal: u32) -> Signal {
-        signal_of(self.signals.as_slice(), signal)
+    pub fn driver(&self, signal: u32) -> Driver {
+        driver_of(&self.signals, signal)
     }
 }
 
-pub fn signal_of(signals: &[Signal], signal: u32) -> Signal {
-    match signals.get(signal as usize) {
-        Some(found) => *found,
-        None => UNDRIVEN,
-    }
-}
-
-// Whether one of the first `pins` nets is the signal.
-fn has_net(nets: [u32; 4], pins: u32, signal: u32) -> bool {
-    for (i, net) in nets.iter().enumerate() {
-        if i < pins as usize && *net == signal {
-            return true;
-        }
-    }
-    false
-}
-
-// Whether a signal feeds what is driven so: a latch is fed by nothing.
-pub fn feeds(signal: u32, driver: Driver) -> bool {
-    match driver {
-        Driver::Gate(gate) => has_net(gate.nets, gate.pins, signal),
-        _ => false,
-    }
-}
-
-// Whether a pin of what is driven so is on a signal.
-fn has_pin_on(driver: Driver, signal: u32) -> bool {
-    match driver {
-        Driver::Gate(gate) => has_net(gate.nets, gate.pins, signal),
-        Driver::Latch(latch) => latch.net == signal,
-        _ => false,
-    }
-}
-
-pub fn is_absent(driver: Driver) -> bool {
-    match driver {
-        Driver::Absent => true,
-        _ => false,
-    }
-}
-
-pub fn pin_count(driver: Driver) -> u32 {
-    match driver {
-        Driver::Gate(gate) => gate.pins,
-        Driver::Latch(_) => 1,
-        _ => 0,
-    }
+fn driver_of(signals: &[Signal], signal: u32) -> Driver {
+    signals
+        .get(signal as usize)
+        .map_or(Driver::Absent, |found| found.driver)
 }
 
 // Whether a signal is an output or has a pin on it.
 pub fn in_use(signals: &[Signal], signal: u32) -> bool {
-    if signal_of(signals, signal).output {
-        return true;
-    }
-    for other in signals {
-        if has_pin_on(other.driver, signal) {
-            return true;
-        }
-    }
-    false
+    signals
+        .get(signal as usize)
+        .is_some_and(|found| found.output)
+        || signals.iter().any(|other| other.driver.has_pin_on(signal))
 }
 
 // The smallest absent signal in use.
 pub fn missing(signals: &[Signal]) -> Option<u32> {
-    for signal in 0..signals.len().min(1024) as u32 {
-        if is_absent(signal_of(signals, signal).driver) && in_use(signals, signal) {
-            return Some(signal);
-        }
-    }
-    None
+    (0..signals.len().min(1024) as u32).find(|signal| driver_of(signals, *signal) == Driver::Absent
+        && in_use(signals, *signal))
 }
 
 // Whether the signals differ, each feeds the next, the last feeds the first, and the first is the smallest.
@@ -153,23 +124,19 @@ pub fn is_loop(signals: &[Signal], list: &[u32]) -> bool {
     let (Some(first), Some(last)) = (list.first(), list.last()) else {
         return false;
     };
-    let mut before = *last;
-    for (i, signal) in list.iter().enumerate() {
-        let driver = signal_of(signals, *signal).driver;
-        if !feeds(before, driver) || *signal < *first || stands_again(list, i, *signal) {
-            return false;
-        }
-        before = *signal;
-    }
-    true
+    is_chain(signals, *last, list)
+        && list
+            .iter()
+            .all(|signal| first <= signal && stands_once(list, *signal))
 }
 
-// Whether a signal stands in a list at another index.
-fn stands_again(list: &[u32], index: usize, signal: u32) -> bool {
-    for (i, other) in list.iter().enumerate() {
-        if i != index && *other == signal {
-            return true;
-        }
-    }
-    false
+// Whether a signal feeds the first of a list, and each of the list feeds the next.
+fn is_chain(signals: &[Signal], before: u32, list: &[u32]) -> bool {
+    iter::once(&before).chain(list).zip(list).all(|(before, signal)| driver_of(
+        signals, *signal,
+    ).is_fed_by(*before))
+}
+
+fn stands_once(list: &[u32], signal: u32) -> bool {
+    list.iter().filter(|other| **other == signal).count() == 1
 }

@@ -1,7 +1,10 @@
 // Where the calls of a trial come from: a table, or a seed.
-use crate::call::{Call, Reply, Step};
+use crate::call::{Expected, Step};
 use crate::model::{Model, table_limit};
-use crate::plain_board::{Driver, pin_count};
+use crate::plain_board::Driver;
+use draws::Draws;
+use editor::Call;
+use netlist::Edit;
 
 pub trait Plan {
     // The next call, which may be chosen by what the model has, or nothing at the end.
@@ -10,27 +13,19 @@ pub trait Plan {
 
 // A call and the reply that it has to give.
 #[derive(Clone, Copy)]
-pub struct Row(pub Call, pub Reply);
+pub struct Row(pub Call, pub Expected);
 
+// The rows that are left.
 #[derive(Clone, Copy)]
-pub struct Table<'a> {
-    rows: &'a [Row],
-    next: usize,
-}
-
-impl<'a> Table<'a> {
-    pub fn new(rows: &'a [Row]) -> Table<'a> {
-        Table { rows, next: 0 }
-    }
-}
+pub struct Table<'a>(pub &'a [Row]);
 
 impl Plan for Table<'_> {
     fn next_step(&mut self, _model: &Model) -> Option<Step> {
-        let Row(call, reply) = *self.rows.get(self.next)?;
-        self.next = self.next.saturating_add(1);
+        let (Row(call, reply), rest) = self.0.split_first()?;
+        self.0 = rest;
         Some(Step {
-            call,
-            expected: Some(reply),
+            call: *call,
+            expected: Some(*reply),
         })
     }
 }
@@ -38,26 +33,20 @@ impl Plan for Table<'_> {
 // Calls that a seed fixes: mostly such as fit the netlist, now and then any numbers.
 #[derive(Clone, Copy)]
 pub struct Random {
-    state: u64,
+    draws: Draws,
     left: u32,
 }
 
 impl Random {
     pub fn new(seed: u32, calls: u32) -> Random {
         Random {
-            state: u64::from(seed),
+            draws: Draws::new(u64::from(seed)),
             left: calls,
         }
     }
 
-    // The upper bits of a linear congruential generator, below `bound`.
     fn below(&mut self, bound: u32) -> u32 {
-        self.state = self
-            .state
-            .wrapping_mul(6364136223846793005)
-            .wrapping_add(1442695040888963407);
-        let upper = (self.state >> 33) as u32;
-        if bound == 0 { 0 } else { upper % bound }
+        self.draws.below(bound)
     }
 
     // Mostly below the bound, now and then at or above it.
@@ -81,95 +70,114 @@ impl Random {
             14..=17 => Call::DropMark,
             18..=22 => Call::Keep,
             23..=24 => Call::Drop,
-            _ => self.edit(model),
+            _ => Call::Make(self.edit(model)),
         }
     }
 
-    fn edit(&mut self, model: &Model) -> Call {
+    fn edit(&mut self, model: &Model) -> Edit {
         if self.below(8) == 0 {
             return self.any_edit(model.signals);
         }
         let signal = self.below(model.signals);
-        let driver = model.board.signal(signal).driver;
+        let driver = model.board.driver(signal);
         match driver {
             Driver::Absent => self.driving(signal, model.signals),
             Driver::Input => self.undriving(signal),
             _ => if self.below(4) == 0 {
                 self.undriving(signal)
             } else {
-                self.moving(signal, pin_count(driver), model.signals)
+                self.moving(signal, driver.pin_count(), model.signals)
             },
         }
     }
 
     // Drives a signal.
-    fn driving(&mut self, signal: u32, signals: u32) -> Call {
+    fn driving(&mut self, signal: u32, signals: u32) -> Edit {
         match self.below(4) {
-            0 => Call::Input(signal),
-            1 => {
-                let net = self.below(signals);
-                let start = self.below(4);
-                Call::Latch(signal, net, start)
-            }
+            0 => Edit::Input { signal },
+            1 => Edit::Latch {
+                signal,
+                net: self.below(signals),
+                start: self.below(4),
+            },
             _ => self.gate(signal, signals),
         }
     }
 
-    fn gate(&mut self, signal: u32, signals: u32) -> Call {
+    fn gate(&mut self, signal: u32, signals: u32) -> Edit {
         let pins = self.below(5);
-        let a = self.below(signals);
-        let b = self.below(signals);
-        let c = self.below(signals);
-        let d = self.below(signals);
-        let nets = [a, b, c, d];
-        let table = self.below(table_limit(pins));
-        Call::Gate(signal, pins, nets, table)
-    }
-
-    fn undriving(&mut self, signal: u32) -> Call {
-        match self.below(4) {
-            0 => Call::Output(signal, 1),
-            1 => Call::Output(signal, 0),
-            2 => Call::Input(signal),
-            _ => Call::Delete(signal),
+        Edit::Gate {
+            signal,
+            pins,
+            nets: [
+                self.below(signals),
+                self.below(signals),
+                self.below(signals),
+                self.below(signals),
+            ],
+            table: self.below(table_limit(pins)),
         }
     }
 
-    fn moving(&mut self, signal: u32, pins: u32, signals: u32) -> Call {
+    fn undriving(&mut self, signal: u32) -> Edit {
+        match self.below(4) {
+            0 => Edit::Output { signal, mark: 1 },
+            1 => Edit::Output { signal, mark: 0 },
+            2 => Edit::Input { signal },
+            _ => Edit::Delete { signal },
+        }
+    }
+
+    fn moving(&mut self, signal: u32, pins: u32, signals: u32) -> Edit {
+        // no number is drawn for a gate without pins
         let pin = if pins == 0 { 0 } else { self.below(pins) };
-        let net = self.below(signals);
-        Call::Move(signal, pin, net)
+        Edit::Move {
+            signal,
+            pin,
+            net: self.below(signals),
+        }
     }
 
     // Any edit with any numbers.
-    fn any_edit(&mut self, signals: u32) -> Call {
+    fn any_edit(&mut self, signals: u32) -> Edit {
         let signal = self.around(signals);
         let net = self.around(signals);
         match self.below(6) {
-            0 => Call::Input(signal),
-            1 => Call::Output(signal, self.around(2)),
+            0 => Edit::Input { signal },
+            1 => Edit::Output {
+                signal,
+                mark: self.around(2),
+            },
             2 => self.any_gate(signal, net, signals),
-            3 => Call::Latch(signal, net, self.around(4)),
-            4 => Call::Delete(signal),
-            _ => Call::Move(signal, self.around(4), net),
+            3 => Edit::Latch {
+                signal,
+                net,
+                start: self.around(4),
+            },
+            4 => Edit::Delete { signal },
+            _ => Edit::Move {
+                signal,
+                pin: self.around(4),
+                net,
+            },
         }
     }
 
-    fn any_gate(&mut self, signal: u32, net: u32, signals: u32) -> Call {
+    fn any_gate(&mut self, signal: u32, net: u32, signals: u32) -> Edit {
         let pins = self.around(5);
         let last = self.around(signals);
-        let nets = [net, signal, net, last];
-        let table = self.around(table_limit(pins));
-        Call::Gate(signal, pins, nets, table)
+        Edit::Gate {
+            signal,
+            pins,
+            nets: [net, signal, net, last],
+            table: self.around(table_limit(pins)),
+        }
     }
 }
 
 impl Plan for Random {
     fn next_step(&mut self, model: &Model) -> Option<Step> {
-        if self.left == 0 {
-            return None;
-        }
-        self.left = self.left.saturating_sub(1);
+        self.left = self.left.checked_sub(1)?;
         Some(Step {
             call: self.call(model),
             expected: None,

@@ -1,72 +1,100 @@
 // An editor and the model, played side by side until they differ.
-use crate::call::{Call, Reply, Shape, Step};
-use crate::compare::difference;
-use crate::desk::Desk;
+use crate::call::{Reply, Shape, Step};
+use crate::compare::{Difference, compare, ensure};
 use crate::model::Model;
+use crate::outcome::Outcome;
 use crate::plan::Plan;
-use crate::play::{Played, play};
-use editor::Editor;
+use crate::play::{Played, Way, play};
+use desk::Desk;
+use editor::{Call, Editor};
+use memory::Memory;
 use std::alloc::{AllocError, Global};
+use std::collections::BTreeMap;
 use words::Store;
 
 // More calls than any plan has.
 const CALLS_MOST: u32 = 100_000;
 
 // How many calls were accepted and the sum of their counts, how many were refused with each number, and whether the editor did as the model.
-#[derive(Clone, Copy)]
+#[derive(Drop)]
 pub struct Trial {
     pub accepted: u32,
     pub moved: u32,
-    pub refused: [u32; 26],
+    pub refused: BTreeMap<u32, u32>,
     pub good: bool,
 }
 
 impl Trial {
-    fn new() -> Trial {
+    fn new(heap: Global) -> Trial {
         Trial {
             accepted: 0,
             moved: 0,
-            refused: [0; 26],
+            refused: BTreeMap::new(heap),
             good: true,
         }
     }
 
-    fn count(&mut self, reply: Reply) {
+    fn count(&mut self, reply: Reply) -> anyhow::Result<()> {
         match reply {
-            Reply::Count(count) => {
+            Ok(count) => {
                 self.accepted = self.accepted.saturating_add(1);
                 self.moved = self.moved.saturating_add(count);
             }
-            Reply::Refused(number) => self.count_refused(number),
+            Err(refusal) => {
+                let count = self.refused.entry(refusal.number())?.or_insert(0);
+                *count = count.saturating_add(1);
+            }
         }
-    }
-
-    fn count_refused(&mut self, number: u32) {
-        if number < 26 {
-            let count = self.refused[number as usize];
-            self.refused[number as usize] = count.saturating_add(1);
-        }
+        Ok(())
     }
 
     pub fn calls(&self) -> u32 {
-        let mut sum = self.accepted;
-        for count in self.refused {
-            sum = sum.saturating_add(count);
-        }
-        sum
+        self.refused
+            .values()
+            .fold(self.accepted, |sum, count| sum.saturating_add(*count))
     }
 }
 
+// A plan tried over each store.
+#[derive(Drop)]
+pub struct Trials {
+    pub log: Trial,
+    pub snapshot: Trial,
+}
+
+impl Trials {
+    pub fn outcome(&self) -> Outcome {
+        Outcome {
+            log: self.log.good,
+            snapshot: self.snapshot.good,
+        }
+    }
+}
+
+pub fn try_on_both<P: Plan + Copy>(
+    rt: &HostRuntime,
+    shape: Shape,
+    plan: P,
+    way: Way,
+) -> anyhow::Result<Trials> {
+    let size = 24 * shape.signals.min(2048) as usize + 24;
+    let mut memory = Memory::new(rt.alloc(), size, shape.limit, 7)?;
+    Ok(Trials {
+        log: try_editor(rt, memory.log(), shape, plan, way)?,
+        snapshot: try_editor(rt, memory.snapshot(), shape, plan, way)?,
+    })
+}
+
 // Makes an editor over a store, and plays a plan on it and on the model. A batch that is still open then is dropped.
-pub fn try_editor<S: Store + Drop, P: Plan + Drop>(
+fn try_editor<S: Store + Drop, P: Plan + Drop>(
     rt: &HostRuntime,
     store: S,
     shape: Shape,
     plan: P,
-    by_name: bool,
+    way: Way,
 ) -> anyhow::Result<Trial> {
     let mut desk = Desk::new(store, shape.signals);
-    let trial = play_plan(rt, &mut desk, shape, plan, by_name);
+    let trial = play_plan(rt, &mut desk, shape, plan, way);
     let _ = desk.close();
     trial
 }
@@ -77,18 +105,18 @@ fn play_plan<S: Store, P: Plan + Drop>(
     desk: &mut Desk<S>,
     shape: Shape,
     plan: P,
-    by_name: bool,
+    way: Way,
 ) -> anyhow::Result<Trial> {
     let mut plan = plan;
     let mut model = Model::new(rt.alloc(), shape)?;
-    let mut trial = Trial::new();
+    let mut trial = Trial::new(rt.alloc());
     for _ in 0..CALLS_MOST {
         let Some(step) = plan.next_step(&model) else {
             break;
         };
-        let Played { reply, clean } = play(desk, step.call, by_name);
-        trial.good = judge(rt, desk.editor(), &mut model, step, reply, clean)?;
-        trial.count(reply);
+        let played = play(desk, step.call, way);
+        trial.good = judge(rt, desk.editor(), &mut model, step, played)?;
+        trial.count(played.reply)?;
         if !trial.good {
             break;
         }
@@ -102,35 +130,36 @@ fn judge<S: Store>(
     editor: &Editor<S>,
     model: &mut Model,
     step: Step,
-    reply: Reply,
-    clean: bool,
+    played: Played,
 ) -> anyhow::Result<bool> {
     let owed = model.play(rt.alloc(), step.call)?;
-    if !meets(step, owed) {
-        return tell(rt, step.call, owed, "the model");
+    if !step.meets(owed) {
+        return tell(rt, step.call, owed, Difference::Model);
     }
-    if reply != owed {
-        return tell(rt, step.call, reply, "the reply");
-    }
-    if !clean {
-        return tell(rt, step.call, reply, "a flag left set");
-    }
-    match difference(editor, model) {
-        Some(what) => tell(rt, step.call, reply, what),
-        None => Ok(true),
+    match differs(editor, model, owed, played) {
+        Ok(()) => Ok(true),
+        Err(difference) => tell(rt, step.call, played.reply, difference),
     }
 }
 
-// Whether a reply is the one that is written down, if one is.
-fn meets(step: Step, reply: Reply) -> bool {
-    match step.expected {
-        Some(expected) => reply == expected,
-        None => true,
-    }
+fn differs<S: Store>(
+    editor: &Editor<S>,
+    model: &Model,
+    owed: Reply,
+    played: Played,
+) -> Result<(), Difference> {
+    ensure(played.reply == owed, Difference::Reply)?;
+    ensure(played.clean, Difference::Flags)?;
+    compare(editor, model)
 }
 
-fn tell(rt: &HostRuntime, call: Call, reply: Reply, what: &str) -> anyhow::Result<bool> {
-    println!(rt; "difference: {what}, at {call:?}, {reply:?}")?;
+fn tell(
+    rt: &HostRuntime,
+    call: Call,
+    reply: Reply,
+    difference: Difference,
+) -> anyhow::Result<bool> {
+    println!(rt; "difference: {difference}, at {call:?}, {reply:?}")?;
     Ok(false)
 }
 
@@ -142,8 +171,7 @@ pub fn try_model<P: Plan + Drop>(heap: Global, shape: Shape, plan: P) -> Result<
         let Some(step) = plan.next_step(&model) else {
             break;
         };
-        let reply = model.play(heap, step.call)?;
-        if !meets(step, reply) {
+        if !step.meets(model.play(heap, step.call)?) {
             return Ok(false);
         }
     }

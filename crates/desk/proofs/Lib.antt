@@ -1,0 +1,4 @@
+pub mod Holding
+pub mod Playing
+pub mod Returning
+pub mod Ticketless

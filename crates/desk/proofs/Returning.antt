@@ -1,0 +1,82 @@
+-- A ticket that another desk hands back.
+use Rattle.std.proofs.Common.{◌≡◌, ◌∙◌, ℕ, zero, suc, ◌<◌, false, Some, None, Option, is_some, Ok, Err, Result, refl, ap, subst, ⊎_elim, arith}
+use Rattle.std.proofs.lemmas.Bool.{cases_lt}
+use Rattle.std.specs.Result.{result_err}
+use Rattle.words.specs.Meaning.{Meaning, levels}
+use Rattle.netlist.specs.declared.edit.Refusal.{Refusal}
+use Rattle.netlist.specs.declared.edit.Refusal.TheVariants.{NoEditor, NoBatch, BatchOpen, NoSuchSignal, OutOfRange, Driven, NotDriven, NoSuchPin, InUse, NoLevelForMark, NoMark, MarkOpen, AbsentInUse, Looped}
+use Rattle.netlist.specs.Refusals.{number}
+use Rattle.editor.specs.declared.call.Call.{Call}
+use Rattle.editor.specs.declared.ticket.Ticket.{Ticket}
+use Rattle.editor.specs.declared.ticket.Returned.{Returned}
+use Rattle.editor.specs.Calls.{Refuses, Replies, Serves}
+use Rattle.editor.specs.Plain.{plain}
+use Rattle.editor.specs.Steps.{Steps, Idle, HandsBack, closed}
+use Rattle.desk.specs.Held.{Holds, left}
+use Rattle.desk.specs.Plays.{returned_with, ticketless, with_ticket}
+use Rattle.desk.specs.State.{State}
+use Rattle.desk.proofs.Holding.{serves_by}
+
+ten_no_batch : (r : Refusal) → number r ≡ 10 → r ≡ NoBatch
+ten_no_batch NoEditor h = absurd (omega (arith, h))
+ten_no_batch NoBatch h = refl
+ten_no_batch BatchOpen h = absurd (omega (arith, h))
+ten_no_batch NoSuchSignal h = absurd (omega (arith, h))
+ten_no_batch OutOfRange h = absurd (omega (arith, h))
+ten_no_batch Driven h = absurd (omega (arith, h))
+ten_no_batch NotDriven h = absurd (omega (arith, h))
+ten_no_batch NoSuchPin h = absurd (omega (arith, h))
+ten_no_batch InUse h = absurd (omega (arith, h))
+ten_no_batch NoLevelForMark h = absurd (omega (arith, h))
+ten_no_batch NoMark h = absurd (omega (arith, h))
+ten_no_batch MarkOpen h = absurd (omega (arith, h))
+ten_no_batch AbsentInUse h = absurd (omega (arith, h))
+ten_no_batch Looped h = absurd (omega (arith, h))
+
+-- where 10 applies and nothing below, it is the reply
+ten : (k : ℕ) → (k < 10 → ⊥) → (10 < k → ⊥) → k ≡ 10
+ten k low high = ⊎_elim (λ lt. absurd (low lt)) (λ ge. ⊎_elim (λ lt. absurd (high lt)) (λ le. omega arith) (cases_lt 10 k)) (cases_lt k 10)
+
+-- what a call that closes a batch replies where none is open
+replies_ten : (m : ℕ) (a a' : Meaning) (c : Call) (r : Result ℕ Refusal) → Refuses m a c 10 → ((k : ℕ) → k < 10 → Refuses m a c k → ⊥) → Replies m a c a' r
+    → (r ≡ Err NoBatch) × (a' ≡ a)
+replies_ten m a a' c (Ok count) some low h = absurd (h.0 10 some)
+replies_ten m a a' c (Err r) some low h =
+    (ap Err (ten_no_batch r (ten (number r) (λ lt. low (number r) lt h.0) (λ lt. h.1 10 lt some))), h.2)
+
+serves_closing : (m : ℕ) (a a' : Meaning) (c : Call) (r : Result ℕ Refusal) → (levels a ≡ 0 → Refuses m a c 10) → ((k : ℕ) → k < 10 → Refuses m a c k → ⊥) → (0 < m → levels a ≡ 0)
+    → Serves m a c a' r → (r ≡ Err (ticketless m)) × (a' ≡ a)
+serves_closing zero a a' c r some low shut h = h.none refl
+serves_closing (suc m) a a' c r some low shut h =
+    let lt : 0 < suc m = omega arith in replies_ten (suc m) a a' c r (some (shut lt)) low (h.some lt)
+
+-- the other desk: its editor refuses, and is as it was
+pub refused_there : (m : ℕ) (a a' : Meaning) (c : Call) (r : Result ℕ Refusal) (held : Option Ticket) → (levels a ≡ 0 → Refuses m a c 10) → ((k : ℕ) → k < 10 → Refuses m a c k → ⊥)
+    → false ≡ is_some held → Idle m a c a' r → Steps m a c a' r → Holds m a held → (r ≡ Err (ticketless m)) × (a' ≡ a)
+refused_there m a a' c r None some low shut idle steps h = serves_closing m a a' c r some low h.backed (serves_by m a a' c r None idle steps h)
+refused_there m a a' c r (Some ticket) some low shut idle steps h = absurd cc
+
+-- the desk: its ticket is back
+pub back_at_hand : (r : Result (Unit {0}) Returned) (t : Refusal) (held held' : Option Ticket) (ticket : Ticket) → closed r ≡ Err t → HandsBack ticket r → Some ticket ≡ held → held' ≡ left r
+    → held' ≡ held
+back_at_hand (Ok _) t held held' ticket is back was now = absurd cc
+back_at_hand (Err b) t held held' ticket is back was now = now ∙ ap Some back ∙ was
+
+pub unchanged : (d₀ d : State) (held' : Option Ticket) → d ≡ d₀ → held' ≡ d.held → with_ticket d held' ≡ d₀
+unchanged d₀ d held' is same = ap (with_ticket d) same ∙ is
+
+-- what is told of it
+pub told : (o : Option Refusal) (r : Result (Unit {0}) Refusal) (t : Refusal) → o ≡ result_err r → plain r ≡ Err t → o ≡ Some t
+told o (Ok _) t is reply = absurd cc
+told o (Err e) t is reply = is ∙ (let same : e ≡ t = cc in ap Some same)
+
+none_there : (o : Option Ticket) (m : ℕ) (ticket : Ticket) → false ≡ is_some o → Some (ticketless m) ≡ returned_with (Some ticket) m o
+none_there None m ticket n = refl
+none_there (Some other) m ticket n = absurd cc
+
+pub told_of : (d₀ d e₀ e : State) (ticket : Ticket) → d ≡ d₀ → e ≡ e₀ → Some ticket ≡ d.held → false ≡ is_some e.held
+    → Some (ticketless e.signals) ≡ returned_with d₀.held e₀.signals e₀.held
+told_of d₀ d e₀ e ticket dis eis some none =
+    subst (λ x. Some (ticketless e.signals) ≡ returned_with x.held e₀.signals e₀.held) dis
+    (subst (λ x. Some (ticketless e.signals) ≡ returned_with d.held x.signals x.held) eis
+    (subst (λ x. Some (ticketless e.signals) ≡ returned_with x e.signals e.held) some (none_there e.held e.signals ticket none)))

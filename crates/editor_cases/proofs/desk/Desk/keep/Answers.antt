@@ -1,7 +1,0 @@
-use Rattle.editor.proofs.Holding.{closed_held}
-use Rattle.editor_cases.proofs.desk.Desk.keep.Goals as goal
-
-pub invariant_of-self-in-Some : goal.invariant_of-self-in-Some
-invariant_of-self-in-Some g c = record {
-  holds = closed_held _ _ _ _ _ _ _ _ c.in-Some.ticket c.keep.ensures.signals c.keep.ensures.steps c.closed.ensures c.in-Some.ensures.value c.args.self.now.holds;
-}
