@@ -94,6 +94,7 @@ impl<'a> Search<'a> {
         self.queue.path_to(number)
     }
 
+    // As if nothing was searched. `lent` stands in each step, since it compares the guard before and after, which no field can.
     fn clear(&mut self)
         ensures lent { self.new.flags.ghost_name ≡ self.old.flags.ghost_name }
         ensures clear { self.new.flags.now ≡ replicate 1024 0 }
