@@ -119,7 +119,7 @@ fn same_latch<S: Store>(editor: &Editor<S>, number: u32, latch: Latch) -> bool {
     editor.start(number) == Some(latch.start)
         && editor
             .pins(number)
-            .is_some_and(|pins| pins.as_slice() == &[latch.net])
+            .is_some_and(|pins| pins.as_slice() == [latch.net].as_slice())
 }
 
 fn same_loop<S: Store>(editor: &Editor<S>, looped: &Option<Board>) -> bool {
