@@ -1,6 +1,7 @@
-mod Told
 pub mod Listing
 pub mod Signals
+pub mod Driving
+pub mod Writes
 pub mod Drivers
 mod Rows
 mod Linked

@@ -4,12 +4,12 @@ use Rattle.std.proofs.lemmas.List.{get_or-set_same, get_or-set_other, length-set
 use Rattle.std.proofs.lemmas.Bool.{cases_eq, eq-eqb, ne_eqb, cond-true, cond-false}
 use Rattle.board.specs.Layout.{word, pin, next, back, needed}
 use Rattle.board.specs.Chain.{Least, Greatest, Chained, Repins}
-use Rattle.board.specs.Links.{onward_at_lem, backed, joined, inserted, removed}
+use Rattle.board.specs.Links.{onward_at, backed, joined, inserted, removed}
 use Rattle.board.proofs.Rows.{On, Rows, Joins, enters, leaves, before-below}
 
 -- what comes after a link, told by the words
 abbrev pub onward_of : ℕ → List ℕ → ℕ → ℕ → ℕ
-onward_of m ws a l = word ws (onward_at_lem m a l)
+onward_of m ws a l = word ws (onward_at m a l)
 
 -- ---- chained words are right chains
 
@@ -49,22 +49,22 @@ module _ (m : ℕ) (ws : List ℕ) where
 -- ---- where links stand
 
 module _ (m a s : ℕ) (a-low : a < m) (s_low : s < m) where
-  at_apart : (l b : ℕ) → l ≤ 4 * m → b ≤ 4 * m → (l ≡ b → (l ≡ 0 → a ≡ s) → ⊥) → onward_at_lem m a l ≡ onward_at_lem m s b → ⊥
+  at_apart : (l b : ℕ) → l ≤ 4 * m → b ≤ 4 * m → (l ≡ b → (l ≡ 0 → a ≡ s) → ⊥) → onward_at m a l ≡ onward_at m s b → ⊥
   at_apart zero zero lt lt' ne e = ne refl (λ _. omega arith)
   at_apart zero (suc p) lt lt' ne e = omega arith
   at_apart (suc x) zero lt lt' ne e = omega arith
   at_apart (suc x) (suc p) lt lt' ne e = ne (omega arith) (λ z. omega arith)
 
 -- a link onward stands neither among the fields, nor among the pins, nor among the links back
-at_low : (m a l : ℕ) → 5 * m ≤ onward_at_lem m a l
+at_low : (m a l : ℕ) → 5 * m ≤ onward_at m a l
 at_low m a zero = omega arith
 at_low m a (suc x) = omega arith
 
-at_high : (m a l : ℕ) → a < m → l ≤ 4 * m → onward_at_lem m a l < 14 * m
+at_high : (m a l : ℕ) → a < m → l ≤ 4 * m → onward_at m a l < 14 * m
 at_high m a zero low lt = omega arith
 at_high m a (suc x) low lt = omega arith
 
-at_pin : (m a l x : ℕ) → a < m → x < 4 * m → onward_at_lem m a l ≡ 6 * m + x → ⊥
+at_pin : (m a l x : ℕ) → a < m → x < 4 * m → onward_at m a l ≡ 6 * m + x → ⊥
 at_pin m a zero x low lt e = omega arith
 at_pin m a (suc y) x low lt e = omega arith
 
@@ -90,27 +90,27 @@ backed-same m ws (suc y) link p e lt =
 
 module _ (m : ℕ) (ws : List ℕ) (s b d onward link : ℕ) (long : 18 * m ≤ length ws) (s_low : s < m) (b_low : b ≤ 4 * m) where
   length-joined : length (joined m ws s b d onward link) ≡ length ws
-  length-joined = length-backed m (set ws (onward_at_lem m s b) onward) d link ∙ length-set ws (onward_at_lem m s b) onward
+  length-joined = length-backed m (set ws (onward_at m s b) onward) d link ∙ length-set ws (onward_at m s b) onward
 
-  joined_under : (at : ℕ) → at < 14 * m → (at ≡ onward_at_lem m s b → ⊥) → word (joined m ws s b d onward link) at ≡ word ws at
-  joined_under at lt ne = backed_under m (set ws (onward_at_lem m s b) onward) d link at lt ∙ get_or-set_other ws (onward_at_lem m s b) at onward 0 ne
+  joined_under : (at : ℕ) → at < 14 * m → (at ≡ onward_at m s b → ⊥) → word (joined m ws s b d onward link) at ≡ word ws at
+  joined_under at lt ne = backed_under m (set ws (onward_at m s b) onward) d link at lt ∙ get_or-set_other ws (onward_at m s b) at onward 0 ne
 
-  joined-leads : word (joined m ws s b d onward link) (onward_at_lem m s b) ≡ onward
+  joined-leads : word (joined m ws s b d onward link) (onward_at m s b) ≡ onward
   joined-leads =
       let high = at_high m s b s_low b_low in
-      backed_under m (set ws (onward_at_lem m s b) onward) d link (onward_at_lem m s b) high ∙ get_or-set_same ws (onward_at_lem m s b) onward 0 (omega arith)
+      backed_under m (set ws (onward_at m s b) onward) d link (onward_at m s b) high ∙ get_or-set_same ws (onward_at m s b) onward 0 (omega arith)
 
   joined_onward : (a l : ℕ) → a < m → l ≤ 4 * m → (l ≡ b → (l ≡ 0 → a ≡ s) → ⊥) → onward_of m (joined m ws s b d onward link) a l ≡ onward_of m ws a l
-  joined_onward a l low lt ne = joined_under (onward_at_lem m a l) (at_high m a l low lt) (at_apart m a s low s_low l b lt b_low ne)
+  joined_onward a l low lt ne = joined_under (onward_at m a l) (at_high m a l low lt) (at_apart m a s low s_low l b lt b_low ne)
 
   joined-before : (p : ℕ) → p < 4 * m → d ≡ suc p → back m (joined m ws s b d onward link) p ≡ link
   joined-before p lt e =
-      backed-same m (set ws (onward_at_lem m s b) onward) d link p e (omega (arith, length-set ws (onward_at_lem m s b) onward))
+      backed-same m (set ws (onward_at m s b) onward) d link p e (omega (arith, length-set ws (onward_at m s b) onward))
 
   joined_back : (x : ℕ) → (d ≡ suc x → ⊥) → back m (joined m ws s b d onward link) x ≡ back m ws x
   joined_back x ne =
       let high = at_high m s b s_low b_low in
-      backed_other m (set ws (onward_at_lem m s b) onward) d link x ne ∙ get_or-set_other ws (onward_at_lem m s b) (14 * m + x) onward 0 (λ e. omega arith)
+      backed_other m (set ws (onward_at m s b) onward) d link x ne ∙ get_or-set_other ws (onward_at m s b) (14 * m + x) onward 0 (λ e. omega arith)
 
   joined-pin : (x : ℕ) → x < 4 * m → pin m (joined m ws s b d onward link) x ≡ pin m ws x
   joined-pin x lt = joined_under (6 * m + x) (omega arith) (λ e. at_pin m s b x s_low lt (sym e))
@@ -177,7 +177,7 @@ module _ (m : ℕ) (ws : List ℕ) (q s b d : ℕ) (chained : Chained m ws) (q-l
         others = λ a l low lt away ne.
             let high = at_high m a l low lt in
             joined_onward m placed s b d (suc q) (suc q) placed_long s_low b_low a l low lt ne
-            ∙ placed_other (onward_at_lem m a l) (at_pin m a l q low q-low) (at_apart m a a low low l (suc q) lt (omega arith) (λ e _. away e)) (λ e. omega arith);
+            ∙ placed_other (onward_at m a l) (at_pin m a l q low q-low) (at_apart m a a low low l (suc q) lt (omega arith) (λ e _. away e)) (λ e. omega arith);
         before = λ p e.
             joined-before m placed s b d (suc q) (suc q) placed_long s_low b_low p (least_top (pin m ws) (4 * m) (suc s) (suc q) d p h e) e;
         backs = λ x lt away ne.
@@ -261,7 +261,7 @@ module _ (m : ℕ) (ws : List ℕ) (q s : ℕ) (chained : Chained m ws) (q-low :
       record {
         leads = joined-leads m freed s b d d b freed_long s_low low;
         others = λ a l a-low lt away ne.
-            joined_onward m freed s b d d b freed_long s_low low a l a-low lt ne ∙ freed_other (onward_at_lem m a l) (at_pin m a l q a-low q-low);
+            joined_onward m freed s b d d b freed_long s_low low a l a-low lt ne ∙ freed_other (onward_at m a l) (at_pin m a l q a-low q-low);
         before = λ p e. joined-before m freed s b d d b freed_long s_low low p (least_top (pin m ws) (4 * m) (suc s) (suc q) d p h e) e;
         backs = λ x lt away ne. joined_back m freed s b d d b freed_long s_low low x ne ∙ freed_other (14 * m + x) (λ e. omega arith);
       }

@@ -60,13 +60,13 @@ module _ (m : ℕ) (ws : List ℕ) (upto start : ℕ) where
       (chain_goes (4 * m) q (omega arith))
 
   -- what one step tells, from what the code reads
-  pub step_some : (edge at link number onward : ℕ) → (edge ≡ 0 → ⊥) → ltb (edge - 1) (4 * m) ≡ true → at ≡ 10 * m + (edge - 1) → link ≡ word ws at
-      → number ≡ gate_of_lem m ws upto start (edge - 1) → onward ≡ upward edge link
+  pub step_some : (edge pin link number onward : ℕ) → 1 ≤ edge → pin ≡ edge - 1 → true ≡ ltb pin (4 * m) → link ≡ next m ws pin
+      → number ≡ gate_of_lem m ws upto start pin → onward ≡ upward edge link
       → rest_of m ws upto start edge ≡ number ∷ rest_of m ws upto start onward
-  step_some edge at link number onward some low at-is link-is number_is onward-is =
-      let there : onward ≡ upward edge (word ws (10 * m + (edge - 1))) = onward-is ∙ ap (upward edge) (link-is ∙ ap (word ws) at-is) in
-      let lt : edge - 1 < 4 * m = ltb-true (edge - 1) (4 * m) low in
-      rest_some edge (omega arith) lt ∙ (λ i. sym number_is i ∷ rest_of m ws upto start (sym there i))
+  step_some edge pin link number onward some pin-is low link-is number_is onward-is =
+      let there : onward ≡ upward edge (next m ws (edge - 1)) = onward-is ∙ ap (upward edge) (link-is ∙ ap (next m ws) pin-is) in
+      let lt : edge - 1 < 4 * m = subst (λ p. p < 4 * m) pin-is (ltb-true pin (4 * m) (sym low)) in
+      rest_some edge (omega (arith, some)) lt ∙ (λ i. sym (number_is ∙ ap (gate_of_lem m ws upto start) pin-is) i ∷ rest_of m ws upto start (sym there i))
 
-  pub step-none : (edge : ℕ) → ltb (edge - 1) (4 * m) ≡ false → rest_of m ws upto start edge ≡ []
-  step-none edge past = rest-none edge (inr (ltb-false (edge - 1) (4 * m) past))
+  pub step-none : (edge pin : ℕ) → pin ≡ edge - 1 → false ≡ ltb pin (4 * m) → rest_of m ws upto start edge ≡ []
+  step-none edge pin pin-is past = rest-none edge (inr (subst (λ p. 4 * m ≤ p) pin-is (ltb-false pin (4 * m) (sym past))))

@@ -1,5 +1,7 @@
 -- Where a board of m signals is kept in the words of a store. Every field has one word for each signal, place or pin.
 use Rattle.std.specs.Prelude.{ℕ, ◌+◌, ◌*◌, List, slice_index}
+use Rattle.board.specs.declared.field.Field.{Field}
+use Rattle.board.specs.declared.field.Field.TheVariants.{Kind, Output, Value, Seat, Holder, First, Pin, Next, Back}
 
 abbrev pub word : List ℕ → ℕ → ℕ
 word ws at = slice_index ws at
@@ -39,3 +41,27 @@ back m ws q = word ws (14 * m + q)
 -- how many words these are
 abbrev pub needed : ℕ → ℕ
 needed m = 18 * m
+
+-- how many words for each signal stand before a field
+abbrev pub start_of : Field → ℕ
+start_of Kind = 0
+start_of Output = 1
+start_of Value = 2
+start_of Seat = 3
+start_of Holder = 4
+start_of First = 5
+start_of Pin = 6
+start_of Next = 10
+start_of Back = 14
+
+-- which word a field has for a signal, a place or a pin
+abbrev pub cell_of : ℕ → Field → ℕ → ℕ
+cell_of m Kind n = n
+cell_of m Output n = m + n
+cell_of m Value n = 2 * m + n
+cell_of m Seat n = 3 * m + n
+cell_of m Holder n = 4 * m + n
+cell_of m First n = 5 * m + n
+cell_of m Pin n = 6 * m + n
+cell_of m Next n = 10 * m + n
+cell_of m Back n = 14 * m + n

@@ -7,9 +7,9 @@ abbrev pub changed : Meaning → List ℕ → Meaning
 changed before image = record { limit = before.limit; image = image; saved = before.saved }
 
 -- the word that tells what comes after a link in the chain of signal a: the first pin on a, or the next one after a pin
-abbrev pub onward_at_lem : ℕ → ℕ → ℕ → ℕ
-onward_at_lem m a zero = 5 * m + a
-onward_at_lem m a (suc p) = 10 * m + p
+abbrev pub onward_at : ℕ → ℕ → ℕ → ℕ
+onward_at m a zero = 5 * m + a
+onward_at m a (suc p) = 10 * m + p
 
 -- the pin at a link, if there is one, tells the link before it
 abbrev pub backed : ℕ → List ℕ → ℕ → ℕ → List ℕ
@@ -18,7 +18,7 @@ backed m ws (suc p) link = slice_set ws (14 * m + p) link
 
 -- between two neighbours in the chain of a, the first leads onward to a link and the second leads back to one
 abbrev pub joined : ℕ → List ℕ → ℕ → ℕ → ℕ → ℕ → ℕ → List ℕ
-joined m ws a before behind onward back = backed m (slice_set ws (onward_at_lem m a before) onward) behind back
+joined m ws a before behind onward back = backed m (slice_set ws (onward_at m a before) onward) behind back
 
 -- pin q stands on a, between its neighbours
 abbrev pub inserted : ℕ → List ℕ → ℕ → ℕ → ℕ → ℕ → List ℕ

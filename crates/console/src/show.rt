@@ -30,20 +30,10 @@ fn show_signal<S: Store>(rt: &HostRuntime, editor: &Editor<S>, signal: u32) -> a
     if kind == Kind::Absent && !output {
         return Ok(());
     }
-    let name = kind_name(kind);
     let mark = u32::from(output);
     let driver = driver_text(rt.alloc(), editor, signal)?;
-    println!(rt; "signal {signal} {name} {mark}{driver}")?;
+    println!(rt; "signal {signal} {kind} {mark}{driver}")?;
     Ok(())
-}
-
-fn kind_name(kind: Kind) -> &'static str {
-    match kind {
-        Kind::Absent => "absent",
-        Kind::Input => "input",
-        Kind::Gate => "gate",
-        Kind::Latch => "latch",
-    }
 }
 
 // What a gate or a latch has besides its output mark.
@@ -63,8 +53,7 @@ fn driver_text<S: Store>(heap: Global, editor: &Editor<S>, signal: u32) -> anyho
 // The signals that the pins are on.
 fn write_pins<S: Store>(text: &mut String, editor: &Editor<S>, signal: u32) -> anyhow::Result<()> {
     if let Some(pins) = editor.pins(signal) {
-        let nets = pins.nets;
-        write_numbers(text, &nets[0..pins.count.min(4) as usize])?;
+        write_numbers(text, pins.as_slice())?;
     }
     Ok(())
 }

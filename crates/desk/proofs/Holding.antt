@@ -1,9 +1,8 @@
 -- What a call leaves of the ticket at hand.
-use Rattle.std.proofs.Common.{◌≡◌, ℕ, suc, ◌+◌, ◌*◌, ◌<◌, ◌≤◌, ◌⊎◌, List, [], ◌∷◌, length, drop, Some, None, Option, IsSome, Ok, Err, Result, sym, refl, ap, subst, inl, inr, ⊎_elim, arith, length-drop}
+use Rattle.std.proofs.Common.{◌≡◌, ℕ, ◌+◌, ◌*◌, ◌<◌, ◌≤◌, ◌⊎◌, List, [], ◌∷◌, length, drop, Some, None, Option, IsSome, Ok, Err, Result, sym, refl, subst, inl, inr, ⊎_elim, arith, length-drop}
 use Rattle.std.proofs.lemmas.Bool.{cases_lt}
 use Rattle.words.specs.Meaning.{Meaning, size, levels}
 use Rattle.netlist.specs.declared.edit.Refusal.{Refusal}
-use Rattle.netlist.specs.Edits.{Applies}
 use Rattle.netlist.specs.Edits.Applies.{no_batch}
 use Rattle.editor.specs.declared.call.Call.{Call}
 use Rattle.editor.specs.declared.call.Call.TheVariants.{Begin, Mark, KeepMark, DropMark, Keep, Drop, Make}

@@ -1,12 +1,10 @@
 -- From what the editor's call says to what the desk's says.
-use Rattle.std.proofs.Common.{◌≡◌, ◌∙◌, ℕ, Bool, true, Some, None, Option, IsSome, is_some, Ok, Err, Result, sym, refl, ap, subst}
-use Rattle.words.specs.Meaning.{Meaning, Lent}
+use Rattle.std.proofs.Common.{◌≡◌, ◌∙◌, ℕ, Some, None, Option, IsSome, is_some, Ok, Err, Result, sym, refl, ap, subst}
 use Rattle.netlist.specs.declared.edit.Refusal.{Refusal}
 use Rattle.editor.specs.declared.call.Call.{Call}
 use Rattle.editor.specs.declared.call.Call.TheVariants.{Keep, Drop}
 use Rattle.editor.specs.declared.ticket.Ticket.{Ticket}
 use Rattle.editor.specs.declared.ticket.Returned.{Returned}
-use Rattle.editor.specs.Plain.{plain}
 use Rattle.editor.specs.Steps.{Steps, Idle, HandsBack, closed}
 use Rattle.desk.specs.Held.{Holds, left}
 use Rattle.desk.specs.Plays.{AtHand, Displays, Hands, Plays, ticketless, with_ticket}

@@ -1,5 +1,5 @@
 -- A ticket that another desk hands back.
-use Rattle.std.proofs.Common.{◌≡◌, ◌∙◌, ℕ, zero, suc, ◌<◌, ◌≤◌, false, Some, None, Option, is_some, Ok, Err, Result, sym, refl, ap, subst, ⊎_elim, arith}
+use Rattle.std.proofs.Common.{◌≡◌, ◌∙◌, ℕ, zero, suc, ◌<◌, false, Some, None, Option, is_some, Ok, Err, Result, refl, ap, subst, ⊎_elim, arith}
 use Rattle.std.proofs.lemmas.Bool.{cases_lt}
 use Rattle.std.specs.Result.{result_err}
 use Rattle.words.specs.Meaning.{Meaning, levels}

@@ -1,15 +1,14 @@
 -- A keep or a drop where no ticket is at hand.
-use Rattle.std.proofs.Common.{◌≡◌, ℕ, zero, suc, ◌<◌, ◌∷◌, [], ◌++◌, List, None, Err, refl, subst, inl, ⊎_elim, arith}
+use Rattle.std.proofs.Common.{◌≡◌, ℕ, zero, suc, ◌<◌, None, Err, refl, subst, inl, ⊎_elim, arith}
 use Rattle.words.specs.Meaning.{Meaning, levels}
 use Rattle.netlist.specs.declared.edit.Edit.{Edit}
-use Rattle.netlist.specs.declared.edit.Refusal.TheVariants.{NoEditor, NoBatch}
+use Rattle.netlist.specs.declared.edit.Refusal.TheVariants.{NoBatch}
 use Rattle.editor.specs.declared.call.Call.{Call}
 use Rattle.editor.specs.declared.call.Call.TheVariants.{Keep, Drop, Make}
 use Rattle.editor.specs.Calls.{Refuses, Replies, Serves}
-use Rattle.editor.specs.Log.{Entry, Led}
 use Rattle.editor.specs.Steps.{Steps}
 use Rattle.editor.proofs.Led.{led_step}
-use Rattle.desk.specs.Held.{Backed, Holds}
+use Rattle.desk.specs.Held.{Holds}
 use Rattle.desk.specs.Plays.{Plays, ticketless}
 use Rattle.desk.specs.State.{State}
 

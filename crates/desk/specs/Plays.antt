@@ -1,5 +1,5 @@
 -- What a call at a desk replies and leaves.
-use Rattle.std.specs.Prelude.{◌≡◌, ℕ, Bool, true, false, zero, suc, List, [], ◌∷◌, ◌++◌, Some, None, Ok, Err, Option, IsSome, Result, replicate}
+use Rattle.std.specs.Prelude.{◌≡◌, ℕ, Bool, true, false, zero, suc, List, [], Some, None, Ok, Err, Option, IsSome, Result, replicate}
 use Rattle.words.specs.Meaning.{Meaning}
 use Rattle.netlist.specs.declared.edit.Edit.{Edit}
 use Rattle.netlist.specs.declared.edit.Edit.TheVariants.{Input, Output, Gate, Latch, Delete, Move}

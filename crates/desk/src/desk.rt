@@ -3,7 +3,6 @@ ghost use Rattle.std.specs.Prelude.{◌≡◌, [], replicate};
 ghost use Rattle.editor.specs.declared.call.Call.TheVariants.{Begin, Mark, KeepMark, DropMark, Keep, Drop, Make};
 ghost use Rattle.editor.specs.Made.{Starts};
 ghost use Rattle.editor.specs.Plain.{plain};
-ghost use Rattle.editor.specs.Shown.{shown_of};
 ghost use Rattle.editor.specs.Steps.{closed as closed_reply};
 ghost use Rattle.desk.specs.Plays.{Plays, Clears, ClearsNamed, ticketless, closing, returned_with, Swaps};
 ghost use Rattle.desk.specs.Held.{Holds, left};
@@ -24,13 +23,12 @@ pub struct Desk<S: Store> {
 impl<S: Store> Model for Desk<S> {
     ghost use Rattle.desk.specs.State.{State};
     ghost use Rattle.desk.specs.Held.{Holds, left};
-    ghost use Rattle.editor.specs.Shown.{shown_of};
-
+    
     ghost Value = { State };
 
-    ghost view = { λ d. record { signals = d.editor.signals; store = S.Store.model d.editor.store; lent = S.Store.lent d.editor.store; shown = shown_of d.editor.shown; held = d.held } };
+    ghost view = { λ d. record { signals = d.editor.board.signals; store = d.editor.board.words; lent = d.editor.board.lent; shown = d.editor.shown; held = d.held } };
 
-    ghost invariant = { λ d. Holds d.editor.signals (S.Store.model d.editor.store) d.held };
+    ghost invariant = { λ d. Holds d.editor.board.signals d.editor.board.words d.held };
 }
 
 impl<S: Store> Desk<S> {
@@ -48,10 +46,10 @@ impl<S: Store> Desk<S> {
     }
 
     pub fn editor(&self) -> &Editor<S>
-        ensures signals { result.now.signals ≡ self.now.signals }
-        ensures store { S.Store.model result.now.store ≡ self.now.store }
-        ensures behind { S.Store.lent result.now.store ≡ self.now.lent }
-        ensures shown { shown_of result.now.shown ≡ self.now.shown }
+        ensures signals { result.now.board.signals ≡ self.now.signals }
+        ensures store { result.now.board.words ≡ self.now.store }
+        ensures behind { result.now.board.lent ≡ self.now.lent }
+        ensures shown { result.now.shown ≡ self.now.shown }
     {
         &self.editor
     }
@@ -148,10 +146,10 @@ impl<S: Store> Desk<S> {
 
     // Drops the open batch, if there is one, and gives the editor.
     pub fn close(self) -> Editor<S>
-        ensures signals { result.signals ≡ self.signals }
-        ensures store { S.Store.model result.store ≡ closing self.store self.held }
-        ensures behind { S.Store.lent result.store ≡ self.lent }
-        ensures shown { shown_of result.shown ≡ self.shown }
+        ensures signals { result.board.signals ≡ self.signals }
+        ensures store { result.board.words ≡ closing self.store self.held }
+        ensures behind { result.board.lent ≡ self.lent }
+        ensures shown { result.shown ≡ self.shown }
     {
         let Desk { editor, held } = self;
         match held {
@@ -234,7 +232,7 @@ fn closed(held: &mut Option<Ticket>, reply: Result<(), Returned>) -> Result<(), 
 
 // What keep and drop reply where there is no ticket to hand in.
 fn no_ticket<S: Store>(editor: &Editor<S>) -> Refusal
-    ensures { result ≡ ticketless editor.now.signals }
+    ensures { result ≡ ticketless editor.now.board.signals }
 {
     if editor.signals() == 0 {
         Refusal::NoEditor
@@ -245,11 +243,11 @@ fn no_ticket<S: Store>(editor: &Editor<S>) -> Refusal
 
 // An open batch is dropped, and its ticket spent.
 fn drop_open<S: Store>(editor: Editor<S>, ticket: Ticket) -> Editor<S>
-    requires { Holds editor.signals (S.Store.model editor.store) (Some ticket) }
-    ensures signals { result.signals ≡ editor.signals }
-    ensures store { S.Store.model result.store ≡ emptied (S.Store.model editor.store) }
-    ensures behind { S.Store.lent result.store ≡ S.Store.lent editor.store }
-    ensures shown { shown_of result.shown ≡ shown_of editor.shown }
+    requires { Holds editor.board.signals editor.board.words (Some ticket) }
+    ensures signals { result.board.signals ≡ editor.board.signals }
+    ensures store { result.board.words ≡ emptied editor.board.words }
+    ensures behind { result.board.lent ≡ editor.board.lent }
+    ensures shown { result.shown ≡ editor.shown }
 {
     let mut editor = editor;
     match editor.drop_batch(ticket) {

@@ -1,11 +1,10 @@
 mod Alike
 mod Batches
+mod Calling
 mod Emptied
-pub mod Holding
 mod Instance
 mod Laid
 pub mod Led
-pub mod Open
 mod Pinned
 mod Rotation
 mod Room

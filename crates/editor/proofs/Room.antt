@@ -1,25 +1,12 @@
 -- A table of 1,024 numbers that is filled from its front.
-use Rattle.std.proofs.Common.{◌≡◌, ℕ, zero, suc, ◌+◌, ◌<◌, ◌≤◌, min, List, [], ◌∷◌, ◌++◌, length, get_or, take, set, sym, refl, ap, ◌∙◌, ⊎_elim, arith}
-use Rattle.std.proofs.lemmas.List.{append-nil, append_assoc, length-take, length_push, take_all, take-append-le, take_more, take_more_set}
-use Rattle.std.proofs.lemmas.Bool.{cases_lt}
+use Rattle.std.proofs.Common.{◌≡◌, ℕ, zero, suc, ◌+◌, ◌<◌, ◌≤◌, List, [], ◌∷◌, ◌++◌, length, get_or, take, sym, refl, ap, ◌∙◌, arith}
+use Rattle.std.proofs.lemmas.List.{append-nil, append_assoc, length_push, take_all, take-append-le, take_more}
 
-module _ (xs : List ℕ) (count : ℕ) (long : length xs ≡ 1024) where
-  pub take-upto : (k : ℕ) → k ≡ min count 1024 → take k xs ≡ take count xs
-  take-upto k e =
-      ⊎_elim
-      (λ lt. let same : k ≡ count = omega arith in ap (λ i. take i xs) same)
-      (λ ge. take_all k xs (omega arith) ∙ sym (take_all count xs (omega arith)))
-      (cases_lt count 1024)
+pub one_more : (xs : List ℕ) (x : ℕ) → length xs < 1024 → xs ++ x ∷ [] ≡ take 1024 (xs ++ x ∷ [])
+one_more xs x lt = sym (take_all 1024 (xs ++ x ∷ []) (omega (arith, length_push xs x)))
 
-  pub one_more : (x : ℕ) → count < 1024 → take (count + 1) (set xs count x) ≡ take 1024 (take count xs ++ x ∷ [])
-  one_more x lt =
-      take_more_set xs count x (omega arith)
-      ∙ sym (take_all 1024 (take count xs ++ x ∷ []) (omega (arith, length_push (take count xs) x, length-take count xs)))
-
-  pub no_room : (x : ℕ) → 1024 ≤ count → take count xs ≡ take 1024 (take count xs ++ x ∷ [])
-  no_room x le =
-      let all : take count xs ≡ xs = take_all count xs (omega arith) in
-      sym (take-append-le 1024 (take count xs) (x ∷ []) (omega (arith, ap length all)) ∙ take_all 1024 (take count xs) (omega (arith, ap length all)))
+pub no_room : (xs : List ℕ) (x : ℕ) → length xs ≡ 1024 → xs ≡ take 1024 (xs ++ x ∷ [])
+no_room xs x full = sym (take-append-le 1024 xs (x ∷ []) (omega (arith, full)) ∙ take_all 1024 xs (omega (arith, full)))
 
 pub none-added : (xs more : List ℕ) → length xs ≤ 1024 → xs ≡ take 1024 (xs ++ take 0 more)
 none-added xs more few = sym (ap (take 1024) (append-nil xs) ∙ take_all 1024 xs few)

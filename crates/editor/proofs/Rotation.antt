@@ -111,9 +111,6 @@ shows_turned k xs none first second few z a b =
     ∙ ap (λ l. take 1024 (l ++ take k xs)) one ∙ take_again 1024 (drop k xs) (take k xs)
     ∙ take_all 1024 (turned k xs) (omega (arith, turned_long k xs))
 
-pub few_left : (from : ℕ) (table xs : List ℕ) → length table ≡ 1024 → xs ≡ drop from table → length xs ≤ 1024
-few_left from table xs long e = omega (arith, ap length e, length-drop from table)
-
 pub shows_loop : (n : Netlist) (k : ℕ) (xs shown : List ℕ) → (0 < length xs → k < length xs) → ((j : ℕ) → j < length xs → get_or xs k 0 ≤ get_or xs j 0)
     → shown ≡ turned k xs → Loop n xs → Loop n shown × SmallestFirst shown
 shows_loop n k xs shown one least e h =

@@ -1,33 +1,21 @@
 -- What the words of a signal tell.
-use Rattle.std.proofs.Common.{◌≡◌, ℕ, zero, suc, ◌+◌, ◌*◌, ◌<◌, ◌≤◌, List, [], ◌∷◌, length, get_or, Some, None, Option, sym, refl, ap, ◌∙◌, subst, ⊎_elim, arith, MatchOption}
+use Rattle.std.proofs.Common.{◌≡◌, ℕ, zero, suc, ◌<◌, List, [], ◌∷◌, length, get_or, Some, None, Option, sym, refl, ap, ◌∙◌, subst, ⊎_elim, arith, MatchOption}
 use Rattle.std.proofs.lemmas.Bool.{cases_lt}
 use Rattle.netlist.specs.Netlist.{Driver, absent, input, gate, latch, driver_of, pins_of}
-use Rattle.board.specs.Layout.{word, kind, value, holder}
+use Rattle.board.specs.Layout.{kind, value, holder}
 use Rattle.board.specs.Board.{nets, driven, netlist_of, order_of}
 use Rattle.board.specs.Standing.{Fitting, Stands}
 use Rattle.board.proofs.Listing.{listing-first}
 use Rattle.table.specs.declared.shape.Table.{Table}
 use Rattle.table.specs.Table.{IsTable}
-use Rattle.editor.specs.declared.questions.Kind.{Kind}
-use Rattle.editor.specs.declared.questions.Kind.TheVariants.{Absent, Gate, Latch}
-use Rattle.editor.specs.declared.questions.Pins.{Pins}
-use Rattle.editor.specs.Questions.{kind_of, kind_by, pin_words_lem, AreOn, TableOf, start_of}
-use Rattle.board.proofs.Signals.{driver-at, driver_past}
+use Rattle.board.specs.declared.kind.Kind.{Kind}
+use Rattle.board.specs.declared.kind.Kind.TheVariants.{Gate, Latch}
+use Rattle.board.specs.Kinds.{kind_of}
+use Rattle.board.proofs.Driving.{kind_past}
+use Rattle.editor.specs.Questions.{pin_words_lem, TableOf, start_of}
+use Rattle.board.proofs.Signals.{driver-at}
 
 -- ---- kinds
-
-kind-driven : (k v : ℕ) (on : List ℕ) → kind_by k ≡ kind_of (driven k v on)
-kind-driven zero v on = refl
-kind-driven (suc zero) v on = refl
-kind-driven (suc (suc zero)) v on = refl
-kind-driven (suc (suc (suc k))) v on = refl
-
-pub kind-told : (m : ℕ) (ws : List ℕ) (s at w : ℕ) (r : Kind) → s < m → w ≡ get_or ws at 0 → at ≡ s → r ≡ kind_by w → r ≡ kind_of (driver_of (netlist_of m ws) s)
-kind-told m ws s at w r lt told is named =
-    named ∙ ap kind_by (told ∙ ap (word ws) is) ∙ kind-driven (kind m ws s) (value m ws s) (nets (pin_words_lem m ws s)) ∙ ap kind_of (sym (driver-at m ws s lt))
-
-pub kind_past : (m : ℕ) (ws : List ℕ) (s : ℕ) → m ≤ s → Absent ≡ kind_of (driver_of (netlist_of m ws) s)
-kind_past m ws s le = ap kind_of (sym (driver_past m ws s le))
 
 -- a driver by its kind
 gate-driven : (k v : ℕ) (on : List ℕ) → Gate ≡ kind_of (driven k v on) → driven k v on ≡ gate v on
@@ -63,8 +51,8 @@ module _ (m : ℕ) (ws : List ℕ) (s : ℕ) where
 
   -- ---- tables and starts
 
-  pub start-told : (at w : ℕ) → w ≡ get_or ws at 0 → at ≡ 2 * m + s → Latch ≡ kind_of the_driver → Some w ≡ start_of the_driver
-  start-told at w told is e = ap Some (told ∙ ap (word ws) is) ∙ ap start_of (sym (latch_is e))
+  pub start-told : (w : ℕ) → w ≡ value m ws s → Latch ≡ kind_of the_driver → Some w ≡ start_of the_driver
+  start-told w told e = ap Some told ∙ ap start_of (sym (latch_is e))
 
   pub table-told : (r : Option Table) → Gate ≡ kind_of the_driver
       → MatchOption r (IsTable (length (nets (pin_words_lem m ws s))) (value m ws s) → ⊥) (λ t. (t.bits ≡ value m ws s) × (t.pins ≡ length (nets (pin_words_lem m ws s))))
@@ -73,17 +61,16 @@ module _ (m : ℕ) (ws : List ℕ) (s : ℕ) where
       absurd (h (subst Fitting (gate-driven (kind m ws s) (value m ws s) (nets (pin_words_lem m ws s)) (e ∙ ap kind_of (driver-at m ws s (gate-below e)))) (stands.fits s (gate-below e))))
   table-told (Some t) e h stands = subst (λ d. TableOf d (Some t)) (sym (gate_is e)) h
 
-  pub signal-told : (at w : ℕ) → s < m → w ≡ get_or ws at 0 → at ≡ 4 * m + s → w ≡ get_or (order_of m ws) s 0
-  signal-told at w lt told is = told ∙ ap (word ws) is ∙ sym (listing-first (holder m ws) m s 0 lt)
+  pub signal-told : (w : ℕ) → s < m → w ≡ holder m ws s → w ≡ get_or (order_of m ws) s 0
+  signal-told w lt told = told ∙ sym (listing-first (holder m ws) m s 0 lt)
 
   -- ---- pins
 
-  pub gate-pins : (r : Pins) (words : List ℕ) → words ≡ pin_words_lem m ws s → AreOn r (nets words) → Gate ≡ kind_of the_driver → AreOn r (pins_of the_driver)
-  gate-pins r words is h e = subst (AreOn r) (ap nets is ∙ sym (ap pins_of (gate_is e))) h
+  pub gate-pins : (on words : List ℕ) → words ≡ pin_words_lem m ws s → on ≡ nets words → Gate ≡ kind_of the_driver → on ≡ pins_of the_driver
+  gate-pins on words is h e = h ∙ ap nets is ∙ sym (ap pins_of (gate_is e))
 
-  pub latch-pins : (r : Pins) (words : List ℕ) → words ≡ pin_words_lem m ws s → AreOn r (get_or (nets words) 0 0 ∷ []) → Latch ≡ kind_of the_driver
-      → AreOn r (pins_of the_driver)
-  latch-pins r words is h e = subst (AreOn r) (ap (λ l. get_or (nets l) 0 0 ∷ []) is ∙ sym (ap pins_of (latch_is e))) h
+  pub latch-pins : (on words : List ℕ) → words ≡ pin_words_lem m ws s → on ≡ get_or (nets words) 0 0 ∷ [] → Latch ≡ kind_of the_driver → on ≡ pins_of the_driver
+  latch-pins on words is h e = h ∙ ap (λ l. get_or (nets l) 0 0 ∷ []) is ∙ sym (ap pins_of (latch_is e))
 
 pub no_start : (d : Driver) (k : Kind) → k ≡ kind_of d → (k ≡ Latch → ⊥) → None ≡ start_of d
 no_start absent k e other = refl

@@ -1,44 +1,18 @@
 -- The words of an empty netlist, written one after the other.
 use Rattle.std.proofs.Common.{◌≡◌, ℕ, ◌+◌, ◌*◌, ◌<◌, ◌≤◌, ◌⊎◌, List, length, set, sym, refl, ap, ◌∙◌, subst, ⊎_elim, arith}
-use Rattle.std.proofs.lemmas.List.{get_or_past, get_or-set_same, get_or-set_other, length-set}
-use Rattle.std.proofs.lemmas.Bool.{cases_eq, cases_lt}
+use Rattle.std.proofs.lemmas.List.{get_or-set_same, get_or-set_other, length-set}
+use Rattle.std.proofs.lemmas.Bool.{cases_eq}
 use Rattle.words.specs.Meaning.{Meaning, size, wrote}
 use Rattle.netlist.specs.Edits.{empty_board}
 use Rattle.board.specs.Layout.{word}
 use Rattle.board.specs.Board.{board_of}
-use Rattle.board.specs.Standing.{Inside, Stands}
-use Rattle.editor.specs.Making.{Cleared, Seated}
+use Rattle.board.specs.Standing.{Stands}
+use Rattle.board.specs.Stored.{Cleared}
+use Rattle.editor.specs.Making.{Seated}
 use Rattle.editor.proofs.Laid.{laid_stands, laid_board}
-
-pub inside_none : (a : Meaning) → Inside a a
-inside_none a = record { levels = refl; limit = refl }
-
-pub inside_more : (a b c : Meaning) (at w : ℕ) → c ≡ wrote b at w → Inside a b → Inside a c
-inside_more a b c at w e h = record { levels = ap (λ x. x.saved) e ∙ h.levels; limit = ap (λ x. x.limit) e ∙ h.limit }
 
 pub size_more : (a b c : Meaning) (at w : ℕ) → c ≡ wrote b at w → size b ≡ size a → size c ≡ size a
 size_more a b c at w e h = ap size e ∙ length-set b.image at w ∙ h
-
--- ---- every word 0
-
-word_here : (ws : List ℕ) (at : ℕ) → word (set ws at 0) at ≡ 0
-word_here ws at =
-    ⊎_elim (λ lt. get_or-set_same ws at 0 0 lt) (λ le. get_or_past (set ws at 0) at 0 (omega (arith, length-set ws at 0))) (cases_lt at (length ws))
-
-pub zeros_more : (b c : Meaning) (at : ℕ) → c ≡ wrote b at 0 → ((k : ℕ) → k < at → word b.image k ≡ 0) → (k : ℕ) → k < at + 1 → word c.image k ≡ 0
-zeros_more b c at e h k lt =
-    ap (λ x. word x.image k) e
-    ∙ ⊎_elim
-    (λ same. ap (word (set b.image at 0)) same ∙ word_here b.image at)
-    (λ other. get_or-set_other b.image at k 0 0 other ∙ h k (omega arith))
-    (cases_eq k at)
-
-pub zeros_all : (a b : Meaning) (at : ℕ) → Inside a b → size b ≡ size a → ((k : ℕ) → k < at → word b.image k ≡ 0) → size a ≤ at → Cleared a b
-zeros_all a b at inside long h le = record {
-  inside = inside;
-  long = long;
-  zero = λ k. ⊎_elim (λ lt. h k lt) (λ past. get_or_past b.image k 0 (omega arith)) (cases_lt k at);
-}
 
 -- ---- each signal at its own place
 
@@ -87,6 +61,3 @@ empty_laid m a b c cleared seats long room =
       laid_stands m c.image enough zeros seated.seats seated.holders,
       laid_board m c.image enough zeros seated.seats seated.holders,
     )
-
-pub inside_both : (a b c : Meaning) → Inside a b → Inside b c → Inside a c
-inside_both a b c h k = record { levels = k.levels ∙ h.levels; limit = k.limit ∙ h.limit }

@@ -1,5 +1,4 @@
 pub mod Calls
-pub mod Held
 pub mod Laws
 pub mod Log
 pub mod Made

@@ -2,7 +2,6 @@
 use Rattle.std.specs.Prelude.{◌≡◌, ℕ, ◌+◌, ◌*◌, ◌<◌, ◌≤◌, ◌⊎◌, List}
 use Rattle.words.specs.Meaning.{Meaning, size, levels}
 use Rattle.board.specs.Layout.{word, seat, holder}
-use Rattle.board.specs.Standing.{Inside}
 
 -- One to 1,024 signals, enough words, a level for a batch and one that stays free, and none of them open.
 pub record Fits (m : ℕ) (a : Meaning) : Type 0 where
@@ -11,12 +10,6 @@ pub record Fits (m : ℕ) (a : Meaning) : Type 0 where
   pub words : 24 * m + 24 ≤ size a
   pub two : 2 ≤ a.limit
   pub closed : levels a ≡ 0
-
--- every word of the present image is 0
-pub record Cleared (before after : Meaning) : Type 0 where
-  pub inside : Inside before after
-  pub long : size after ≡ size before
-  pub zero : (at : ℕ) → word after.image at ≡ 0
 
 -- each of the first n signals stands at the place of its own number, and nothing else is changed
 pub record Seated (m n : ℕ) (ws ws' : List ℕ) : Type 0 where

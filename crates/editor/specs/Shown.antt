@@ -1,16 +1,11 @@
 -- A loop that is shown.
-use Rattle.std.specs.Prelude.{◌≡◌, ℕ, ◌≤◌, List, [], ◌∷◌, take, Ok, Err, Result, ◌≢◌}
+use Rattle.std.specs.Prelude.{◌≡◌, ℕ, ◌≤◌, List, [], ◌∷◌, Ok, Err, Result, ◌≢◌}
 use Rattle.reach.specs.Reach.{Among}
 use Rattle.netlist.specs.declared.edit.Edit.{Edit}
 use Rattle.netlist.specs.declared.edit.Refusal.{Refusal}
 use Rattle.netlist.specs.declared.edit.Refusal.TheVariants.{Looped}
 use Rattle.netlist.specs.Netlist.{Netlist, Loop}
 use Rattle.netlist.specs.Edits.{asked}
-use Rattle.editor.specs.declared.shown.Shown.{Shown}
-
--- its numbers, one after the other
-abbrev pub shown_of : Shown → List ℕ
-shown_of shown = take shown.count shown.numbers
 
 -- none is smaller than the first
 abbrev pub SmallestFirst : List ℕ → Type 0

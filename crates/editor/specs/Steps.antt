@@ -4,7 +4,9 @@ use Rattle.words.specs.Meaning.{Meaning}
 use Rattle.netlist.specs.declared.edit.Edit.{Edit}
 use Rattle.netlist.specs.declared.edit.Refusal.{Refusal}
 use Rattle.board.specs.Board.{netlist_of}
+use Rattle.board.specs.Stored.{Stored, Stays}
 use Rattle.editor.specs.declared.call.Call.{Call}
+use Rattle.editor.specs.declared.call.Call.TheVariants.{Make}
 use Rattle.editor.specs.declared.ticket.Ticket.{Ticket}
 use Rattle.editor.specs.declared.ticket.Returned.{Returned}
 use Rattle.editor.specs.Calls.{Serves}
@@ -22,6 +24,18 @@ Idle m a c a' r = m ≡ 0 → Serves m a c a' r
 -- The loop shown after an edit is one of the netlist asked for, where the edit was refused for a loop; else none is.
 abbrev pub ShowsLoop : ℕ → Meaning → Edit → Result ℕ Refusal → List ℕ → Type 0
 ShowsLoop m a e r shown = (log : List Entry) → Led m log a → Shows (netlist_of m a.image) e r shown
+
+-- What a call on a board replies and leaves; M and the memory behind the store stay.
+pub record Called (before : Stored) (c : Call) (after : Stored) (r : Result ℕ Refusal) : Type 0 where
+  pub steps : Steps before.signals before.words c after.words r
+  pub idle : Idle before.signals before.words c after.words r
+  pub stays : Stays before after
+
+-- An edit, and the loop that is shown after it: none by an editor of no signals.
+pub record Edited (before : Stored) (e : Edit) (after : Stored) (r : Result ℕ Refusal) (shown : List ℕ) : Type 0 where
+  pub called : Called before (Make e) after r
+  pub shows : ShowsLoop before.signals before.words e r shown
+  pub hidden : before.signals ≡ 0 → shown ≡ []
 
 -- ---- replies that carry a ticket
 

@@ -1,25 +1,26 @@
 // Batches and marks over a store: a batch is its first open level, every further level is a mark.
-ghost use Rattle.std.specs.Prelude.{◌≡◌, ℕ, ◌<◌, ◌≤◌, true, ◌⊎◌, Decides, MatchOption};
+ghost use Rattle.std.specs.Prelude.{◌≡◌, ℕ, ◌<◌, ◌≤◌, true, ◌⊎◌, Decides, MatchOption, MatchResult};
 ghost use Rattle.words.specs.Meaning.{levels as levels_of};
 ghost use Rattle.netlist.specs.Refusals.{number};
-ghost use Rattle.netlist.specs.Netlist.{absent, driver_of, output_of, Used};
+ghost use Rattle.netlist.specs.Netlist.{output_of, Used};
 ghost use Rattle.board.specs.Board.{netlist_of, Sound};
+ghost use Rattle.board.specs.Stored.{Stays};
 ghost use Rattle.editor.specs.declared.call.Call.TheVariants.{Begin, Mark, KeepMark, DropMark, Keep, Drop};
 ghost use Rattle.editor.specs.Calls.{Missing, Refuses, Replies, emptied};
 ghost use Rattle.editor.specs.Plain.{plain};
 
-use board::{Layout, read};
+use board::StoredBoard;
 use netlist::Refusal;
 use words::Store;
 
-pub(crate) fn open_batch<S: Store>(store: &mut S) -> Result<(), Refusal>
-    ensures replies { (m : ℕ) → 2 ≤ (S.Store.model store.old).limit → Replies m (S.Store.model store.old) Begin (S.Store.model store.new) (plain result) }
-    ensures behind { S.Store.lent store.new ≡ S.Store.lent store.old }
+pub(crate) fn open_batch<S: Store>(board: &mut StoredBoard<S>) -> Result<(), Refusal>
+    ensures replies { (m : ℕ) → 2 ≤ board.old.words.limit → Replies m board.old.words Begin board.new.words (plain result) }
+    ensures stays { Stays board.old board.new }
 {
-    if store.levels() > 0 {
+    if board.levels() > 0 {
         return Err(Refusal::BatchOpen);
     }
-    match store.open_level() {
+    match board.open_level() {
         Ok(()) => Ok(()),
         // a store of no levels at all
         Err(_) => Err(Refusal::NoLevelForMark),
@@ -27,121 +28,110 @@ pub(crate) fn open_batch<S: Store>(store: &mut S) -> Result<(), Refusal>
 }
 
 // The last level stays free.
-pub(crate) fn open_mark<S: Store>(store: &mut S) -> Result<(), Refusal>
-    ensures replies { (m : ℕ) → Replies m (S.Store.model store.old) Mark (S.Store.model store.new) (plain result) }
-    ensures behind { S.Store.lent store.new ≡ S.Store.lent store.old }
+pub(crate) fn open_mark<S: Store>(board: &mut StoredBoard<S>) -> Result<(), Refusal>
+    ensures replies { (m : ℕ) → Replies m board.old.words Mark board.new.words (plain result) }
+    ensures stays { Stays board.old board.new }
 {
-    let levels = store.levels();
+    let levels = board.levels();
     if levels == 0 {
         return Err(Refusal::NoBatch);
     }
-    if store.limit().saturating_sub(levels) <= 1 {
+    if board.limit().saturating_sub(levels) <= 1 {
         return Err(Refusal::NoLevelForMark);
     }
-    let _ = store.open_level();
+    let _ = board.open_level();
     Ok(())
 }
 
-// Why there is no mark to close.
-fn mark_refusal<S: Store>(store: &S) -> Option<Refusal>
-    ensures { MatchOption result (1 < levels_of (S.Store.model store.now)) (λ e. (m : ℕ) → Refuses m (S.Store.model store.now) KeepMark (number e) × ((k : ℕ) → k < number e → Refuses m (S.Store.model store.now) KeepMark k → ⊥)) }
+// Whether there is a mark to close.
+fn check_mark<S: Store>(board: &StoredBoard<S>) -> Result<(), Refusal>
+    ensures { MatchResult result (λ _. 1 < levels_of board.now.words) (λ e. (m : ℕ) → Refuses m board.now.words KeepMark (number e) × ((k : ℕ) → k < number e → Refuses m board.now.words KeepMark k → ⊥)) }
 {
-    match store.levels() {
-        0 => Some(Refusal::NoBatch),
-        1 => Some(Refusal::NoMark),
-        _ => None,
+    match board.levels() {
+        0 => Err(Refusal::NoBatch),
+        1 => Err(Refusal::NoMark),
+        _ => Ok(()),
     }
 }
 
-pub(crate) fn close_mark_keeping<S: Store>(store: &mut S) -> Result<(), Refusal>
-    ensures replies { (m : ℕ) → Replies m (S.Store.model store.old) KeepMark (S.Store.model store.new) (plain result) }
-    ensures behind { S.Store.lent store.new ≡ S.Store.lent store.old }
+pub(crate) fn keep_mark<S: Store>(board: &mut StoredBoard<S>) -> Result<(), Refusal>
+    ensures replies { (m : ℕ) → Replies m board.old.words KeepMark board.new.words (plain result) }
+    ensures stays { Stays board.old board.new }
 {
-    if let Some(refusal) = mark_refusal(store) {
-        return Err(refusal);
-    }
-    let _ = store.keep_level();
+    check_mark(board)?;
+    let _ = board.keep_level();
     Ok(())
 }
 
-pub(crate) fn close_mark_dropping<S: Store>(store: &mut S) -> Result<(), Refusal>
-    ensures replies { (m : ℕ) → Replies m (S.Store.model store.old) DropMark (S.Store.model store.new) (plain result) }
-    ensures behind { S.Store.lent store.new ≡ S.Store.lent store.old }
+pub(crate) fn drop_mark<S: Store>(board: &mut StoredBoard<S>) -> Result<(), Refusal>
+    ensures replies { (m : ℕ) → Replies m board.old.words DropMark board.new.words (plain result) }
+    ensures stays { Stays board.old board.new }
 {
-    if let Some(refusal) = mark_refusal(store) {
-        return Err(refusal);
-    }
-    let _ = store.drop_level();
+    check_mark(board)?;
+    let _ = board.drop_level();
     Ok(())
 }
 
 // Takes back what was done since the batch was opened, marks and all.
-pub(crate) fn drop_all<S: Store>(store: &mut S)
-    ensures empties { S.Store.model store.new ≡ emptied (S.Store.model store.old) }
-    ensures behind { S.Store.lent store.new ≡ S.Store.lent store.old }
+pub(crate) fn drop_all<S: Store>(board: &mut StoredBoard<S>)
+    ensures empties { board.new.words ≡ emptied board.old.words }
+    ensures stays { Stays board.old board.new }
 {
-    while store.drop_level().is_ok() {}
+    while board.drop_level().is_ok() {}
 }
 
-pub(crate) fn drop_batch<S: Store>(store: &mut S) -> Result<(), Refusal>
-    ensures replies { (m : ℕ) → Replies m (S.Store.model store.old) Drop (S.Store.model store.new) (plain result) }
-    ensures behind { S.Store.lent store.new ≡ S.Store.lent store.old }
+pub(crate) fn drop_batch<S: Store>(board: &mut StoredBoard<S>) -> Result<(), Refusal>
+    ensures replies { (m : ℕ) → Replies m board.old.words Drop board.new.words (plain result) }
+    ensures stays { Stays board.old board.new }
 {
-    if store.levels() == 0 {
+    if board.levels() == 0 {
         return Err(Refusal::NoBatch);
     }
-    drop_all(store);
+    drop_all(board);
     Ok(())
 }
 
-pub(crate) fn close_batch<S: Store>(store: &mut S, layout: Layout) -> Result<(), Refusal>
-    ensures replies { Sound layout.signals (S.Store.model store.old).image → Replies layout.signals (S.Store.model store.old) Keep (S.Store.model store.new) (plain result) }
-    ensures behind { S.Store.lent store.new ≡ S.Store.lent store.old }
+pub(crate) fn keep_batch<S: Store>(board: &mut StoredBoard<S>) -> Result<(), Refusal>
+    ensures replies { Sound board.old.signals board.old.words.image → Replies board.old.signals board.old.words Keep board.new.words (plain result) }
+    ensures stays { Stays board.old board.new }
 {
-    let levels = store.levels();
+    let levels = board.levels();
     if levels == 0 {
         return Err(Refusal::NoBatch);
     }
     if levels > 1 {
         return Err(Refusal::MarkOpen);
     }
-    if smallest_missing(store, layout).is_some() {
+    if smallest_missing(board).is_some() {
         return Err(Refusal::AbsentInUse);
     }
-    let _ = store.keep_level();
+    let _ = board.keep_level();
     Ok(())
 }
 
 // The smallest absent signal in use, in one pass over the signals.
-pub(crate) fn smallest_missing<S: Store>(store: &S, layout: Layout) -> Option<u32>
-    ensures { Sound layout.signals (S.Store.model store.now).image → MatchOption result ((s : ℕ) → Missing layout.signals (netlist_of layout.signals (S.Store.model store.now).image) s → ⊥) (λ s. Missing layout.signals (netlist_of layout.signals (S.Store.model store.now).image) s × ((t : ℕ) → t < s → Missing layout.signals (netlist_of layout.signals (S.Store.model store.now).image) t → ⊥)) }
+pub(crate) fn smallest_missing<S: Store>(board: &StoredBoard<S>) -> Option<u32>
+    ensures { Sound board.now.signals board.now.words.image → MatchOption result ((s : ℕ) → Missing board.now.signals (netlist_of board.now.signals board.now.words.image) s → ⊥) (λ s. Missing board.now.signals (netlist_of board.now.signals board.now.words.image) s × ((t : ℕ) → t < s → Missing board.now.signals (netlist_of board.now.signals board.now.words.image) t → ⊥)) }
 {
-    for signal in 0..layout.signals {
-        if is_missing(store, layout, signal) {
+    for signal in 0..board.signals() {
+        if is_missing(board, signal) {
             return Some(signal);
         }
     }
     None
 }
 
-fn is_missing<S: Store>(store: &S, layout: Layout, signal: u32) -> bool
-    requires { signal < layout.signals }
-    ensures { Sound layout.signals (S.Store.model store.now).image → Decides result (Missing layout.signals (netlist_of layout.signals (S.Store.model store.now).image) signal) }
+fn is_missing<S: Store>(board: &StoredBoard<S>, signal: u32) -> bool
+    requires { signal < board.now.signals }
+    ensures { Sound board.now.signals board.now.words.image → Decides result (Missing board.now.signals (netlist_of board.now.signals board.now.words.image) signal) }
 {
-    is_absent(store, layout, signal) && is_wanted(store, layout, signal)
-}
-
-fn is_absent<S: Store>(store: &S, layout: Layout, signal: u32) -> bool
-    requires { signal < layout.signals }
-    ensures { Decides result (driver_of (netlist_of layout.signals (S.Store.model store.now).image) signal ≡ absent) }
-{
-    read(store, layout.kind(signal)) == 0
+    board.is_absent(signal) && is_wanted(board, signal)
 }
 
 // A pin is on the signal, or it is an output.
-fn is_wanted<S: Store>(store: &S, layout: Layout, signal: u32) -> bool
-    requires { signal < layout.signals }
-    ensures { Sound layout.signals (S.Store.model store.now).image → Decides result (Used (netlist_of layout.signals (S.Store.model store.now).image) signal ⊎ (output_of (netlist_of layout.signals (S.Store.model store.now).image) signal ≡ true)) }
+fn is_wanted<S: Store>(board: &StoredBoard<S>, signal: u32) -> bool
+    requires { signal < board.now.signals }
+    ensures { Sound board.now.signals board.now.words.image → Decides result (Used (netlist_of board.now.signals board.now.words.image) signal ⊎ (output_of (netlist_of board.now.signals board.now.words.image) signal ≡ true)) }
 {
-    read(store, layout.first(signal)) != 0 || read(store, layout.output(signal)) == 1
+    board.is_used(signal) || board.is_output(signal)
 }

@@ -10,9 +10,10 @@ mod questions;
 mod shown;
 mod ticket;
 
+pub use board::Kind;
 pub use call::Call;
 pub use editor::Editor;
 pub use laws::{equal_words_reply_alike, worked_batches_hold};
-pub use questions::{Kind, Pins};
+pub use questions::Pins;
 pub use shown::Shown;
 pub use ticket::{Returned, Ticket};

@@ -3,10 +3,11 @@ ghost use Rattle.std.specs.Prelude.{◌≡◌, ◌+◌, ◌*◌, ◌≤◌, Deci
 ghost use Rattle.words.specs.Meaning.{size as size_of};
 ghost use Rattle.netlist.specs.Edits.{empty_board};
 ghost use Rattle.board.specs.Board.{board_of};
-ghost use Rattle.board.specs.Standing.{Inside, Stands};
-ghost use Rattle.editor.specs.Making.{Fits, Cleared, Seated};
+ghost use Rattle.board.specs.Standing.{Stands};
+ghost use Rattle.board.specs.Stored.{OnlyWords};
+ghost use Rattle.editor.specs.Making.{Fits, Seated};
 
-use board::{Layout, write};
+use board::{Field, StoredBoard};
 use words::Store;
 
 pub(crate) fn fits<S: Store>(store: &S, signals: u32) -> bool
@@ -22,33 +23,21 @@ pub(crate) fn fits<S: Store>(store: &S, signals: u32) -> bool
 }
 
 // Writes the empty netlist: each signal is absent, no pin is on any, and signal n stands at place n.
-pub(crate) fn lay_empty<S: Store>(store: &mut S, layout: Layout)
-    ensures lays { layout.signals ≤ 1024 → 24 * layout.signals + 24 ≤ size_of (S.Store.model store.old) → Stands layout.signals (S.Store.model store.new).image × (board_of layout.signals (S.Store.model store.new).image ≡ empty_board layout.signals) }
-    ensures inside { Inside (S.Store.model store.old) (S.Store.model store.new) }
-    ensures long { size_of (S.Store.model store.new) ≡ size_of (S.Store.model store.old) }
-    ensures behind { S.Store.lent store.new ≡ S.Store.lent store.old }
+pub(crate) fn lay_empty<S: Store>(board: &mut StoredBoard<S>)
+    ensures lays { board.old.signals ≤ 1024 → 24 * board.old.signals + 24 ≤ size_of board.old.words → Stands board.old.signals board.new.words.image × (board_of board.old.signals board.new.words.image ≡ empty_board board.old.signals) }
+    ensures only { OnlyWords board.old board.new }
 {
-    clear(store);
-    seat_all(store, layout);
+    board.clear();
+    seat_all(board);
 }
 
-fn clear<S: Store>(store: &mut S)
-    ensures clears { Cleared (S.Store.model store.old) (S.Store.model store.new) }
-    ensures behind { S.Store.lent store.new ≡ S.Store.lent store.old }
+fn seat_all<S: Store>(board: &mut StoredBoard<S>)
+    ensures seats { 5 * board.old.signals ≤ size_of board.old.words → Seated board.old.signals board.old.signals board.old.words.image board.new.words.image }
+    ensures only { OnlyWords board.old board.new }
+    ensures long { size_of board.new.words ≡ size_of board.old.words }
 {
-    for at in 0..store.size() {
-        write(store, at, 0);
-    }
-}
-
-fn seat_all<S: Store>(store: &mut S, layout: Layout)
-    ensures seats { 5 * layout.signals ≤ size_of (S.Store.model store.old) → Seated layout.signals layout.signals (S.Store.model store.old).image (S.Store.model store.new).image }
-    ensures inside { Inside (S.Store.model store.old) (S.Store.model store.new) }
-    ensures long { size_of (S.Store.model store.new) ≡ size_of (S.Store.model store.old) }
-    ensures behind { S.Store.lent store.new ≡ S.Store.lent store.old }
-{
-    for signal in 0..layout.signals {
-        write(store, layout.seat(signal), signal);
-        write(store, layout.holder(signal), signal);
+    for signal in 0..board.signals() {
+        board.write(Field::Seat, signal, signal);
+        board.write(Field::Holder, signal, signal);
     }
 }

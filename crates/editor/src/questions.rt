@@ -1,183 +1,186 @@
-// What the words tell of a signal or a place, each at a cost that does not grow with the netlist.
-ghost use Rattle.std.specs.Prelude.{◌≡◌, ◌<◌, ◌≤◌, [], ◌∷◌, length, MatchOption, slice_index};
+// What the words tell of a signal or a place, each at a cost that does not grow with the netlist, but for the smallest absent signal in use.
+ghost use Rattle.std.specs.Prelude.{◌≡◌, ℕ, ◌-◌, ◌<◌, ◌≤◌, List, [], ◌∷◌, length, take, Decides, MatchOption, slice_index};
+ghost use Rattle.words.specs.Meaning.{levels as levels_of};
 ghost use Rattle.table.specs.Table.{IsTable};
 ghost use Rattle.netlist.specs.Netlist.{driver_of, output_of, pins_of};
 ghost use Rattle.netlist.specs.Places.{place as place_of};
+ghost use Rattle.board.specs.Kinds.{kind_of};
 ghost use Rattle.board.specs.Layout.{value as value_word_of};
-ghost use Rattle.board.specs.Board.{netlist_of, nets as nets_of, order_of, Sound};
-ghost use Rattle.board.specs.Standing.{Stands};
-ghost use Rattle.editor.specs.Questions.{kind_of, kind_by, pin_words_lem, AreOn, TableOf, start_of};
+ghost use Rattle.board.specs.Board.{netlist_of, nets as nets_of, order_of};
+ghost use Rattle.editor.specs.Calls.{Missing};
+ghost use Rattle.editor.specs.Log.{Entry, Led};
+ghost use Rattle.editor.specs.Questions.{pin_words_lem, TableOf, start_of};
 
-use board::{Layout, read};
+use crate::batch::smallest_missing;
+use crate::editor::Editor;
+use arrayvec::ArrayVec;
+use board::{Field, Kind, StoredBoard};
 use table::Table;
 use words::Store;
 
-#[derive(Clone, Copy, PartialEq, Eq, Debug)]
-pub enum Kind {
-    Absent,
-    Input,
-    Gate,
-    Latch,
-}
-
 // The signals that the pins of a gate or a latch are on.
-#[derive(Clone, Copy)]
-pub struct Pins {
-    // at most four
-    pub count: u32,
-    // those past the count are 0
-    pub nets: [u32; 4],
-}
+pub type Pins = ArrayVec<u32, 4>;
 
-pub(crate) fn kind_of<S: Store>(store: &S, layout: Layout, signal: u32) -> Option<Kind>
-    ensures { MatchOption result (layout.signals ≤ signal) (λ k. (signal < layout.signals) × (k ≡ kind_of (driver_of (netlist_of layout.signals (S.Store.model store.now).image) signal))) }
-{
-    if signal >= layout.signals {
-        return None;
+impl<S: Store> Editor<S> {
+    // M
+    pub fn signals(&self) -> u32
+        ensures { result ≡ self.now.board.signals }
+    {
+        self.board.signals()
     }
-    Some(kind_at(store, layout, signal))
-}
 
-pub(crate) fn output_of<S: Store>(store: &S, layout: Layout, signal: u32) -> Option<bool>
-    ensures { MatchOption result (layout.signals ≤ signal) (λ o. (signal < layout.signals) × (o ≡ output_of (netlist_of layout.signals (S.Store.model store.now).image) signal)) }
-{
-    if signal >= layout.signals {
-        return None;
+    // how many levels are open
+    pub fn levels(&self) -> usize
+        ensures { result ≡ levels_of self.now.board.words }
+    {
+        self.board.levels()
     }
-    Some(read(store, layout.output(signal)) == 1)
-}
 
-pub(crate) fn pins_of<S: Store>(store: &S, layout: Layout, signal: u32) -> Option<Pins>
-    ensures { MatchOption result (layout.signals ≤ signal) (λ p. (signal < layout.signals) × AreOn p (pins_of (driver_of (netlist_of layout.signals (S.Store.model store.now).image) signal))) }
-{
-    if signal >= layout.signals {
-        return None;
+    // whether a batch is open
+    pub fn batch_open(&self) -> bool
+        ensures { Decides result (0 < levels_of self.now.board.words) }
+    {
+        self.board.levels() > 0
     }
-    Some(pins_at(store, layout, signal))
-}
 
-// The table of a gate.
-pub(crate) fn table_of<S: Store>(store: &S, layout: Layout, signal: u32) -> Option<Table>
-    ensures { Stands layout.signals (S.Store.model store.now).image → TableOf (driver_of (netlist_of layout.signals (S.Store.model store.now).image) signal) result }
-{
-    match kind_at(store, layout, signal) {
-        Kind::Gate => table_at(store, layout, signal),
-        _ => None,
+    // every level but that of the batch is a mark
+    pub fn marks_open(&self) -> usize
+        ensures { result ≡ levels_of self.now.board.words - 1 }
+    {
+        self.board.levels().saturating_sub(1)
     }
-}
 
-// The start of a latch.
-pub(crate) fn start_of<S: Store>(store: &S, layout: Layout, signal: u32) -> Option<u32>
-    ensures { result ≡ start_of (driver_of (netlist_of layout.signals (S.Store.model store.now).image) signal) }
-{
-    match kind_at(store, layout, signal) {
-        Kind::Latch => Some(read(store, layout.value(signal))),
-        _ => None,
-    }
-}
-
-pub(crate) fn place_of<S: Store>(store: &S, layout: Layout, signal: u32) -> Option<u32>
-    ensures { MatchOption result (layout.signals ≤ signal) (λ p. (signal < layout.signals) × (Sound layout.signals (S.Store.model store.now).image → p ≡ place_of (order_of layout.signals (S.Store.model store.now).image) signal)) }
-{
-    if signal >= layout.signals {
-        return None;
-    }
-    Some(read(store, layout.seat(signal)))
-}
-
-pub(crate) fn signal_at<S: Store>(store: &S, layout: Layout, place: u32) -> Option<u32>
-    ensures { MatchOption result (layout.signals ≤ place) (λ s. (place < layout.signals) × (s ≡ slice_index (order_of layout.signals (S.Store.model store.now).image) place)) }
-{
-    if place >= layout.signals {
-        return None;
-    }
-    Some(read(store, layout.holder(place)))
-}
-
-// A signal that there is not is absent.
-fn kind_at<S: Store>(store: &S, layout: Layout, signal: u32) -> Kind
-    ensures { result ≡ kind_of (driver_of (netlist_of layout.signals (S.Store.model store.now).image) signal) }
-{
-    if signal >= layout.signals {
-        return Kind::Absent;
-    }
-    kind_named(read(store, layout.kind(signal)))
-}
-
-fn kind_named(word: u32) -> Kind
-    ensures { result ≡ kind_by word }
-{
-    match word {
-        0 => Kind::Absent,
-        1 => Kind::Input,
-        2 => Kind::Gate,
-        _ => Kind::Latch,
-    }
-}
-
-fn no_pins() -> Pins
-    ensures { AreOn result [] }
-{
-    Pins {
-        count: 0,
-        nets: [0; 4],
-    }
-}
-
-// A latch has one pin, whatever the words say.
-fn one_pin(words: [u32; 4]) -> Pins
-    ensures { AreOn result (slice_index (nets_of words) 0 ∷ []) }
-{
-    Pins {
-        count: 1,
-        nets: [words[0].saturating_sub(1), 0, 0, 0],
-    }
-}
-
-// The signals that pins are on, up to the first pin that is on none.
-fn pins_on(words: [u32; 4]) -> Pins
-    ensures { AreOn result (nets_of words) }
-{
-    let mut nets = [0; 4];
-    for (i, word) in words.iter().enumerate() {
-        if *word == 0 {
-            return Pins {
-                count: i as u32,
-                nets,
-            };
+    // Nothing is told of a signal that is not below M.
+    pub fn kind(&self, signal: u32) -> Option<Kind>
+        ensures { MatchOption result (self.now.board.signals ≤ signal) (λ k. (signal < self.now.board.signals) × (k ≡ kind_of (driver_of (netlist_of self.now.board.signals self.now.board.words.image) signal))) }
+    {
+        if signal >= self.signals() {
+            return None;
         }
-        nets[i] = *word - 1;
+        Some(self.board.kind(signal))
     }
-    Pins { count: 4, nets }
+
+    pub fn output_mark(&self, signal: u32) -> Option<bool>
+        ensures { MatchOption result (self.now.board.signals ≤ signal) (λ o. (signal < self.now.board.signals) × (o ≡ output_of (netlist_of self.now.board.signals self.now.board.words.image) signal)) }
+    {
+        if signal >= self.signals() {
+            return None;
+        }
+        Some(self.board.is_output(signal))
+    }
+
+    // the signals that its pins are on
+    pub fn pins(&self, signal: u32) -> Option<Pins>
+        ensures { MatchOption result (self.now.board.signals ≤ signal) (λ p. (signal < self.now.board.signals) × (p.items ≡ pins_of (driver_of (netlist_of self.now.board.signals self.now.board.words.image) signal))) }
+    {
+        if signal >= self.signals() {
+            return None;
+        }
+        Some(pins_at(&self.board, signal))
+    }
+
+    // the table of a gate
+    pub fn table(&self, signal: u32) -> Option<Table>
+        ensures { (log : List Entry) → Led self.now.board.signals log self.now.board.words → TableOf (driver_of (netlist_of self.now.board.signals self.now.board.words.image) signal) result }
+    {
+        match self.board.kind(signal) {
+            Kind::Gate => table_at(&self.board, signal),
+            _ => None,
+        }
+    }
+
+    // the start value of a latch
+    pub fn start(&self, signal: u32) -> Option<u32>
+        ensures { result ≡ start_of (driver_of (netlist_of self.now.board.signals self.now.board.words.image) signal) }
+    {
+        match self.board.kind(signal) {
+            Kind::Latch => Some(self.board.read(Field::Value, signal)),
+            _ => None,
+        }
+    }
+
+    pub fn place(&self, signal: u32) -> Option<u32>
+        ensures { MatchOption result (self.now.board.signals ≤ signal) (λ p. (signal < self.now.board.signals) × ((log : List Entry) → Led self.now.board.signals log self.now.board.words → p ≡ place_of (order_of self.now.board.signals self.now.board.words.image) signal)) }
+    {
+        if signal >= self.signals() {
+            return None;
+        }
+        Some(self.board.read(Field::Seat, signal))
+    }
+
+    pub fn signal_at(&self, place: u32) -> Option<u32>
+        ensures { MatchOption result (self.now.board.signals ≤ place) (λ s. (place < self.now.board.signals) × (s ≡ slice_index (order_of self.now.board.signals self.now.board.words.image) place)) }
+    {
+        if place >= self.signals() {
+            return None;
+        }
+        Some(self.board.read(Field::Holder, place))
+    }
+
+    // the loop shown since the last edit, its smallest signal first
+    pub fn loop_shown(&self) -> &[u32]
+        ensures { result.now ≡ self.now.shown }
+    {
+        self.shown.numbers()
+    }
+
+    // the smallest absent signal in use
+    pub fn missing(&self) -> Option<u32>
+        ensures { (log : List Entry) → Led self.now.board.signals log self.now.board.words → MatchOption result ((s : ℕ) → Missing self.now.board.signals (netlist_of self.now.board.signals self.now.board.words.image) s → ⊥) (λ s. Missing self.now.board.signals (netlist_of self.now.board.signals self.now.board.words.image) s × ((t : ℕ) → t < s → Missing self.now.board.signals (netlist_of self.now.board.signals self.now.board.words.image) t → ⊥)) }
+    {
+        smallest_missing(&self.board)
+    }
 }
 
-// The words of a signal's four pins.
-fn pin_words<S: Store>(store: &S, layout: Layout, signal: u32) -> [u32; 4]
-    ensures { result ≡ pin_words_lem layout.signals (S.Store.model store.now).image signal }
+fn pins_at<S: Store>(board: &StoredBoard<S>, signal: u32) -> Pins
+    ensures { result.items ≡ pins_of (driver_of (netlist_of board.now.signals board.now.words.image) signal) }
 {
-    let from = layout.pin(0) + 4 * signal as usize;
-    [
-        read(store, from),
-        read(store, from + 1),
-        read(store, from + 2),
-        read(store, from + 3),
-    ]
-}
-
-fn pins_at<S: Store>(store: &S, layout: Layout, signal: u32) -> Pins
-    ensures { AreOn result (pins_of (driver_of (netlist_of layout.signals (S.Store.model store.now).image) signal)) }
-{
-    match kind_at(store, layout, signal) {
-        Kind::Absent | Kind::Input => no_pins(),
-        Kind::Gate => pins_on(pin_words(store, layout, signal)),
-        Kind::Latch => one_pin(pin_words(store, layout, signal)),
+    match board.kind(signal) {
+        Kind::Absent | Kind::Input => ArrayVec::new(),
+        Kind::Gate => pins_on(pin_words(board, signal)),
+        Kind::Latch => one_pin(pin_words(board, signal)),
     }
 }
 
 // The value of a signal as a table of as many pins as are on something, if it fits them.
-fn table_at<S: Store>(store: &S, layout: Layout, signal: u32) -> Option<Table>
-    ensures { MatchOption result (IsTable (length (nets_of (pin_words_lem layout.signals (S.Store.model store.now).image signal))) (value_word_of layout.signals (S.Store.model store.now).image signal) → ⊥) (λ t. (t.bits ≡ value_word_of layout.signals (S.Store.model store.now).image signal) × (t.pins ≡ length (nets_of (pin_words_lem layout.signals (S.Store.model store.now).image signal)))) }
+fn table_at<S: Store>(board: &StoredBoard<S>, signal: u32) -> Option<Table>
+    ensures { MatchOption result (IsTable (length (nets_of (pin_words_lem board.now.signals board.now.words.image signal))) (value_word_of board.now.signals board.now.words.image signal) → ⊥) (λ t. (t.bits ≡ value_word_of board.now.signals board.now.words.image signal) × (t.pins ≡ length (nets_of (pin_words_lem board.now.signals board.now.words.image signal)))) }
 {
-    let pins = pins_on(pin_words(store, layout, signal));
-    Table::new(pins.count, read(store, layout.value(signal))).ok()
+    let pins = pins_on(pin_words(board, signal));
+    Table::new(pins.len() as u32, board.read(Field::Value, signal)).ok()
+}
+
+// The words of a signal's four pins.
+fn pin_words<S: Store>(board: &StoredBoard<S>, signal: u32) -> [u32; 4]
+    ensures { result ≡ pin_words_lem board.now.signals board.now.words.image signal }
+{
+    [
+        board.pin(signal, 0),
+        board.pin(signal, 1),
+        board.pin(signal, 2),
+        board.pin(signal, 3),
+    ]
+}
+
+// The signals that pins are on, up to the first pin that is on none.
+fn pins_on(words: [u32; 4]) -> Pins
+    ensures { result.items ≡ nets_of words }
+{
+    let mut nets = ArrayVec::new();
+    for word in words {
+        let Some(net) = word.checked_sub(1) else {
+            break;
+        };
+        nets.push(net);
+    }
+    nets
+}
+
+// A latch has one pin, whatever the words say.
+fn one_pin(words: [u32; 4]) -> Pins
+    ensures { result.items ≡ slice_index (nets_of words) 0 ∷ [] }
+{
+    let mut nets = ArrayVec::new();
+    nets.push(words[0].saturating_sub(1));
+    nets
 }

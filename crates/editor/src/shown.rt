@@ -1,36 +1,42 @@
 // The loop that is shown of an edit that was refused for it, its smallest number first.
-ghost use Rattle.std.specs.Prelude.{◌≡◌, ℕ, ◌<◌, ◌≤◌, [], ◌∷◌, ◌++◌, length, take, slice_index};
+ghost use Rattle.std.specs.Prelude.{◌≡◌, ℕ, ◌<◌, ◌≤◌, List, [], ◌∷◌, ◌++◌, length, take, slice_index};
 ghost use Rattle.reach.specs.Listed.{along};
 ghost use Rattle.netlist.specs.Netlist.{Netlist, Loop};
-ghost use Rattle.editor.specs.Shown.{shown_of, SmallestFirst};
+ghost use Rattle.editor.specs.Shown.{SmallestFirst};
 
+use arrayvec::ArrayVec;
 use reach::Path;
+use std::marker::Model;
 
 #[derive(Drop)]
 pub struct Shown {
-    numbers: [u32; 1024],
-    count: usize,
+    numbers: ArrayVec<u32, 1024>,
+}
+
+impl Model for Shown {
+    ghost Value = { List ℕ };
+
+    ghost view = { λ s. s.numbers.items };
 }
 
 impl Shown {
     pub(crate) fn none() -> Self
-        ensures { shown_of result ≡ [] }
+        ensures { result ≡ [] }
     {
         Shown {
-            numbers: [0; 1024],
-            count: 0,
+            numbers: ArrayVec::new(),
         }
     }
 
     pub(crate) fn clear(&mut self)
-        ensures { shown_of self.new ≡ [] }
+        ensures { self.new ≡ [] }
     {
-        self.count = 0;
+        self.numbers.clear();
     }
 
     // A loop is shown from its smallest number on, and round to there.
     pub(crate) fn show(&mut self, path: Path)
-        ensures { (n : Netlist) → Loop n (along path) → Loop n (shown_of self.new) × SmallestFirst (shown_of self.new) }
+        ensures { (n : Netlist) → Loop n (along path) → Loop n self.new × SmallestFirst self.new }
     {
         let numbers = path.numbers();
         let from = smallest_at(numbers);
@@ -40,15 +46,14 @@ impl Shown {
     }
 
     pub(crate) fn numbers(&self) -> &[u32]
-        ensures { result.now ≡ shown_of self.now }
+        ensures { result.now ≡ self.now }
     {
-        let count = self.count.min(1024);
-        &self.numbers[..count]
+        self.numbers.as_slice()
     }
 
     // More numbers at the end, as far as there is room.
     fn append(&mut self, more: &[u32])
-        ensures { length (shown_of self.old) ≤ 1024 → shown_of self.new ≡ take 1024 (shown_of self.old ++ more.now) }
+        ensures { length self.old ≤ 1024 → self.new ≡ take 1024 (self.old ++ more.now) }
     {
         for number in more {
             self.push(*number);
@@ -56,11 +61,10 @@ impl Shown {
     }
 
     fn push(&mut self, number: u32)
-        ensures { shown_of self.new ≡ take 1024 (shown_of self.old ++ number ∷ []) }
+        ensures { self.new ≡ take 1024 (self.old ++ number ∷ []) }
     {
-        if self.count < 1024 {
-            self.numbers[self.count] = number;
-            self.count += 1;
+        if self.numbers.len() < 1024 {
+            self.numbers.push(number);
         }
     }
 }

@@ -1,4 +1,8 @@
 // The ticket of an open batch.
+ghost use Rattle.std.specs.Prelude.{◌≡◌};
+ghost use Rattle.editor.specs.Plain.{plain};
+ghost use Rattle.editor.specs.Steps.{closed, HandsBack};
+
 use netlist::Refusal;
 
 // It cannot be copied or let go: a host that begins a batch has to keep it or to drop it.
@@ -17,7 +21,24 @@ impl Ticket {
         Ticket { number: 1 }
     }
 
-    pub(crate) fn spend(self) {
+    // It is spent where the batch was closed, and handed back with a refusal.
+    pub(crate) fn settle(self, reply: Result<(), Refusal>) -> Result<(), Returned>
+        ensures closed { closed result ≡ plain reply }
+        ensures back { HandsBack self result }
+    {
+        match reply {
+            Ok(()) => {
+                self.spend();
+                Ok(())
+            }
+            Err(refusal) => Err(Returned {
+                refusal,
+                ticket: self,
+            }),
+        }
+    }
+
+    fn spend(self) {
         let Ticket { number: _ } = self;
     }
 }

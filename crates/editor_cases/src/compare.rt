@@ -1,7 +1,7 @@
 // What an editor tells, against the model.
 use crate::model::Model;
 use crate::plain_board::{Board, Driver, Gate, Latch, Signal, is_loop, missing};
-use editor::{Editor, Kind, Pins};
+use editor::{Editor, Kind};
 use std::fmt::{self, Display, Formatter, Write};
 use words::Store;
 
@@ -112,18 +112,14 @@ fn same_gate<S: Store>(editor: &Editor<S>, number: u32, gate: Gate) -> bool {
         && table.bits() == gate.table)
         && editor
             .pins(number)
-            .is_some_and(|pins| same_pins(pins, gate.on()))
+            .is_some_and(|pins| pins.as_slice() == gate.on())
 }
 
 fn same_latch<S: Store>(editor: &Editor<S>, number: u32, latch: Latch) -> bool {
     editor.start(number) == Some(latch.start)
         && editor
             .pins(number)
-            .is_some_and(|pins| same_pins(pins, &[latch.net]))
-}
-
-fn same_pins(pins: Pins, nets: &[u32]) -> bool {
-    pins.count as usize == nets.len() && pins.nets.starts_with(nets)
+            .is_some_and(|pins| pins.as_slice() == [latch.net].as_slice())
 }
 
 fn same_loop<S: Store>(editor: &Editor<S>, looped: &Option<Board>) -> bool {

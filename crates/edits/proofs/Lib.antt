@@ -1,3 +1,4 @@
+mod Carried
 mod Writing
 mod Boards
 mod Smallest

@@ -79,43 +79,33 @@ puts_few n o s a o' c h =
 
 -- ---- the nets of an array, one after the other
 
-among_at : (xs : List ℕ) (i : ℕ) → i < length xs → Among (get_or xs i 0) xs
+pub among_at : (xs : List ℕ) (i : ℕ) → i < length xs → Among (get_or xs i 0) xs
 among_at [] i lt = absurd (omega arith)
 among_at (x ∷ xs) zero lt = inl refl
 among_at (x ∷ xs) (suc i) lt = inr (among_at xs i (omega arith))
-
-pub net_among : (k : ℕ) (nets : List ℕ) (i : ℕ) → length nets ≡ 4 → i < min k 4 → Among (get_or nets i 0) (take k nets)
-net_among k nets i four lt =
-    subst (λ x. Among x (take k nets)) (get_or-take k nets i 0 (omega arith)) (among_at (take k nets) i (omega (arith, length-take k nets, four)))
 
 -- so many are put, and the sum is small enough to be counted
 pub record PutSoFar (m : ℕ) (ws : List ℕ) (s : ℕ) (nets : List ℕ) (i : ℕ) (ws' : List ℕ) (total : ℕ) : Type 0 where
   pub placed : PlacedAll m ws s (take i nets) ws' total
   pub small : total ≤ i * 1024
 
-pub so_far_more : (m : ℕ) (ws : List ℕ) (s k : ℕ) (nets : List ℕ) (i : ℕ) (ws' ws'' : List ℕ) (total moved sum : ℕ) → length nets ≡ 4 → i < min k 4
-    → ReadyAll m ws s (take k nets) → PutSoFar m ws s nets i ws' total → (Ready m ws' s (get_or nets i 0) → Places m ws' s (get_or nets i 0) ws'' moved)
+pub so_far_more : (m : ℕ) (ws : List ℕ) (s : ℕ) (nets : List ℕ) (i : ℕ) (ws' ws'' : List ℕ) (total moved sum : ℕ) → length nets ≤ 4 → i < length nets
+    → ReadyAll m ws s nets → PutSoFar m ws s nets i ws' total → (Ready m ws' s (get_or nets i 0) → Places m ws' s (get_or nets i 0) ws'' moved)
     → sum ≡ min (total + moved) 4294967295 → PutSoFar m ws s nets (i + 1) ws'' sum
-so_far_more m ws s k nets i ws' ws'' total moved sum four lt r h put e =
-    let p : Places m ws' s (get_or nets i 0) ws'' moved = put (placed_ready m ws s (take k nets) (take i nets) ws' total r h.placed (get_or nets i 0) (net_among k nets i four lt)) in
+so_far_more m ws s nets i ws' ws'' total moved sum four lt r h put e =
+    let p : Places m ws' s (get_or nets i 0) ws'' moved = put (placed_ready m ws s nets (take i nets) ws' total r h.placed (get_or nets i 0) (among_at nets i lt)) in
     let few : moved ≤ length (order_of m ws') = puts_few (netlist_of m ws') (order_of m ws') s (get_or nets i 0) (order_of m ws'') moved p.puts in
     let most : moved ≤ 1024 = omega (arith, h.placed.permutes.long, r.few) in
     let low : total ≤ i * 1024 = h.small in
     let all : sum ≡ total + moved = omega arith in
     record {
       placed = subst (λ xs. PlacedAll m ws s xs ws'' sum) (sym (take_more nets i 0 (omega arith)))
-          (subst (λ x. PlacedAll m ws s (take i nets ++ get_or nets i 0 ∷ []) ws'' x) (sym all) (placed_more m ws s (take k nets) (take i nets) ws' total r h.placed (get_or nets i 0) moved ws'' p));
+          (subst (λ x. PlacedAll m ws s (take i nets ++ get_or nets i 0 ∷ []) ws'' x) (sym all) (placed_more m ws s nets (take i nets) ws' total r h.placed (get_or nets i 0) moved ws'' p));
       small = omega arith;
     }
 
-pub so_far_none : (m : ℕ) (ws : List ℕ) (s k : ℕ) (nets : List ℕ) → ReadyAll m ws s (take k nets) → PutSoFar m ws s nets 0 ws 0
-so_far_none m ws s k nets r = record { placed = placed-none m ws s (take k nets) r; small = omega arith }
+pub so_far_none : (m : ℕ) (ws : List ℕ) (s : ℕ) (nets : List ℕ) → ReadyAll m ws s nets → PutSoFar m ws s nets 0 ws 0
+so_far_none m ws s nets r = record { placed = placed-none m ws s nets r; small = omega arith }
 
-pub so_far_all : (m : ℕ) (ws : List ℕ) (s k : ℕ) (nets : List ℕ) (i : ℕ) (ws' : List ℕ) (total : ℕ) → length nets ≡ 4 → i ≡ min k 4 → PutSoFar m ws s nets i ws' total → PlacedAll m ws s (take k nets) ws' total
-so_far_all m ws s k nets i ws' total four e h =
-    let same : take i nets ≡ take k nets =
-    ⊎_elim
-    (λ lt. let q : i ≡ k = omega arith in ap (λ x. take x nets) q)
-    (λ le. take_all i nets (omega arith) ∙ sym (take_all k nets (omega arith)))
-    (cases_lt k 4) in
-    subst (λ xs. PlacedAll m ws s xs ws' total) same h.placed
+pub so_far_all : (m : ℕ) (ws : List ℕ) (s : ℕ) (nets : List ℕ) (i : ℕ) (ws' : List ℕ) (total : ℕ) → i ≡ length nets → PutSoFar m ws s nets i ws' total → PlacedAll m ws s nets ws' total
+so_far_all m ws s nets i ws' total e h = subst (λ xs. PlacedAll m ws s xs ws' total) (take_all i nets (omega arith)) h.placed

@@ -1,5 +1,5 @@
 -- From the change of the netlist and the puts to what an edit promises.
-use Rattle.std.proofs.Common.{◌≡◌, ℕ, ◌<◌, ◌≤◌, List, [], ◌∷◌, length, drop, None, Ok, Err, Result, sym, refl, ap, ◌∙◌, subst, arith}
+use Rattle.std.proofs.Common.{◌≡◌, ℕ, ◌<◌, ◌≤◌, List, [], ◌∷◌, length, drop, Ok, Err, Result, sym, refl, ap, ◌∙◌, subst, arith}
 use Rattle.words.specs.Meaning.{Meaning, levels, newest, opened, kept, dropped, Opens, Keeps, Drops}
 use Rattle.words.specs.declared.store.StoreRefusal.{StoreRefusal}
 use Rattle.reach.specs.Listed.{along}
@@ -14,8 +14,6 @@ use Rattle.netlist.proofs.Loops.{order-excludes-loops}
 use Rattle.board.specs.Board.{signal_at, netlist_of, order_of, board_of}
 use Rattle.board.specs.Standing.{Fitting, Stands, Inside}
 use Rattle.board.proofs.Listing.{length-listing}
-use Rattle.places.specs.declared.put.Put.{Put}
-use Rattle.places.specs.declared.put.Put.TheVariants.{Placed, Looped}
 use Rattle.edits.specs.Checks.{Checks, Passes, Plain}
 use Rattle.edits.specs.Entered.{Entered}
 use Rattle.edits.specs.Puts.{ReadyAll, PlacedAll, PutsPins}
@@ -46,7 +44,7 @@ module _ (m : ℕ) (ws : List ℕ) (e : Edit) (ws₁ : List ℕ) (few : m ≤ 10
         (subst (λ o. OrderedBut (signal_of e) (asked (netlist_of m ws) e) o) (sym en.order) (asked-others (netlist_of m ws) (order_of m ws) e stands.ordered));
   }
 
-  pub all_placed : (ws₂ : List ℕ) (total : ℕ) → PlacedAll m ws₁ (signal_of e) (puts_of (netlist_of m ws) e) ws₂ total → Placing m ws e ws₂ (Placed total)
+  pub all_placed : (ws₂ : List ℕ) (total : ℕ) → PlacedAll m ws₁ (signal_of e) (puts_of (netlist_of m ws) e) ws₂ total → Placing m ws e ws₂ (Ok total)
   all_placed ws₂ total h = (
     record {
       sound = h.sound;
@@ -62,7 +60,7 @@ module _ (m : ℕ) (ws : List ℕ) (e : Edit) (ws₁ : List ℕ) (few : m ≤ 10
         (subst (λ o. PutsAll (netlist_of m ws₁) o (signal_of e) (puts_of (netlist_of m ws) e) (order_of m ws₂) total) en.order h.puts),
   )
 
-pub placing : (m : ℕ) (ws : List ℕ) (e : Edit) (a₁ a₂ : Meaning) (s : ℕ) (on : List ℕ) (r : Put) → m ≤ 1024 → Stands m ws → Passes m (netlist_of m ws) e
+pub placing : (m : ℕ) (ws : List ℕ) (e : Edit) (a₁ a₂ : Meaning) (s : ℕ) (on : List ℕ) (r : Result ℕ Path) → m ≤ 1024 → Stands m ws → Passes m (netlist_of m ws) e
     → Entered m ws e a₁.image → s ≡ signal_of e → on ≡ puts_of (netlist_of m ws) e → (ReadyAll m a₁.image s on → PutsPins m a₁ s on a₂ r) → Placing m ws e a₂.image r
 placing m ws e a₁ a₂ s on r few stands p en es eo put =
     let all : PutsPins m a₁ (signal_of e) (puts_of (netlist_of m ws) e) a₂ r =
@@ -70,9 +68,9 @@ placing m ws e a₁ a₂ s on r few stands p en es eo put =
     let was : ReadyAll m a₁.image (signal_of e) (puts_of (netlist_of m ws) e) ≡ ReadyAll m a₁.image s on = λ i. ReadyAll m a₁.image (sym es i) (sym eo i) in
     subst (λ x. x) same (put (subst (λ x. x) was (ready m ws e a₁.image few stands p en)))) in
     finish r all where
-      finish : (r : Put) → PutsPins m a₁ (signal_of e) (puts_of (netlist_of m ws) e) a₂ r → Placing m ws e a₂.image r
-      finish (Placed total) h = all_placed m ws e a₁.image few stands p en a₂.image total h
-      finish (Looped path) (a, among, loop) = (a, among, subst (λ n. Loop n (along path)) en.netlist loop)
+      finish : (r : Result ℕ Path) → PutsPins m a₁ (signal_of e) (puts_of (netlist_of m ws) e) a₂ r → Placing m ws e a₂.image r
+      finish (Ok total) h = all_placed m ws e a₁.image few stands p en a₂.image total h
+      finish (Err path) (a, among, loop) = (a, among, subst (λ n. Loop n (along path)) en.netlist loop)
 
 plain-none : (n : Netlist) (e : Edit) → Plain e → puts_of n e ≡ []
 plain-none n (Input s) h = refl
@@ -82,14 +80,14 @@ plain-none n (Latch s a v) h = refl
 plain-none n (Delete s) h = refl
 plain-none n (Move s i a) h = absurd h
 
-pub plain_placing : (m : ℕ) (ws : List ℕ) (e : Edit) (ws₁ : List ℕ) → Plain e → m ≤ 1024 → Stands m ws → Passes m (netlist_of m ws) e → Entered m ws e ws₁ → Placing m ws e ws₁ (Placed 0)
+pub plain_placing : (m : ℕ) (ws : List ℕ) (e : Edit) (ws₁ : List ℕ) → Plain e → m ≤ 1024 → Stands m ws → Passes m (netlist_of m ws) e → Entered m ws e ws₁ → Placing m ws e ws₁ (Ok 0)
 plain_placing m ws e ws₁ plain few stands p en =
     all_placed m ws e ws₁ few stands p en ws₁ 0
     (subst (λ on. PlacedAll m ws₁ (signal_of e) on ws₁ 0) (sym (plain-none (netlist_of m ws) e plain)) (placed-none m ws₁ (signal_of e) (puts_of (netlist_of m ws) e) (ready m ws e ws₁ few stands p en)))
 
 -- ---- refusals
 
-pub passes : (m l : ℕ) (n : Netlist) (e : Edit) → Checks m l n e None → Passes m n e
+pub passes : (m l : ℕ) (n : Netlist) (e : Edit) → Checks m l n e (Ok tt) → Passes m n e
 passes m l n e h = record {
   signals = λ x. h 12 (omega arith) (no_signal x);
   ranged = λ x. h 13 (omega arith) (out_of_range x);
@@ -99,7 +97,7 @@ passes m l n e h = record {
   unused = λ x. h 19 (omega arith) (in_use x);
 }
 
-none_applies : (m l : ℕ) (n : Netlist) (e : Edit) → Checks m l n e None → ((xs : List ℕ) → Loop (asked n e) xs → ⊥) → (k : ℕ) → Applies m l n e k → ⊥
+none_applies : (m l : ℕ) (n : Netlist) (e : Edit) → Checks m l n e (Ok tt) → ((xs : List ℕ) → Loop (asked n e) xs → ⊥) → (k : ℕ) → Applies m l n e k → ⊥
 none_applies m l n e h no_loop k (no_batch x) = h 10 (omega arith) (no_batch x)
 none_applies m l n e h no_loop k (no_signal x) = h 12 (omega arith) (no_signal x)
 none_applies m l n e h no_loop k (out_of_range x) = h 13 (omega arith) (out_of_range x)
@@ -111,8 +109,8 @@ none_applies m l n e h no_loop k (looped a x xs y) = no_loop xs y
 
 -- ---- the edit as a whole
 
-pub made_ok : (m : ℕ) (a a' : Meaning) (e : Edit) (total : ℕ) → Workable m a → Checks m (levels a) (netlist_of m a.image) e None → Inside a a'
-    → Placing m a.image e a'.image (Placed total) → Makes m a e a' (Ok total)
+pub made_ok : (m : ℕ) (a a' : Meaning) (e : Edit) (total : ℕ) → Workable m a → Checks m (levels a) (netlist_of m a.image) e (Ok tt) → Inside a a'
+    → Placing m a.image e a'.image (Ok total) → Makes m a e a' (Ok total)
 made_ok m a a' e total w checks inside (stands, netlist, puts) = record {
   edits = (
     none_applies m (levels a) (netlist_of m a.image) e checks (λ xs loop. order-excludes-loops (asked (netlist_of m a.image) e) (order_of m a'.image) xs (subst (λ n. Ordered n (order_of m a'.image)) netlist stands.ordered) loop),
@@ -137,7 +135,7 @@ drops_some a b (Ok _) lt h = h.1
 drops_some a b (Err f) lt h = absurd (omega (arith, h.1))
 
 -- the edit was made on a level of its own
-module _ (m : ℕ) (a a₁ a₂ a₃ : Meaning) (e : Edit) (w : Workable m a) (checks : Checks m (levels a) (netlist_of m a.image) e None) (ro : Result (Unit {0}) StoreRefusal) (open' : Opens a a₁ ro) (inside : Inside a₁ a₂) where
+module _ (m : ℕ) (a a₁ a₂ a₃ : Meaning) (e : Edit) (w : Workable m a) (checks : Checks m (levels a) (netlist_of m a.image) e (Ok tt)) (ro : Result (Unit {0}) StoreRefusal) (open' : Opens a a₁ ro) (inside : Inside a₁ a₂) where
   opened_now : a₁ ≡ opened a
   opened_now = opens_room a a₁ ro w.room open'
 
@@ -157,22 +155,22 @@ module _ (m : ℕ) (a a₁ a₂ a₃ : Meaning) (e : Edit) (w : Workable m a) (c
   pub passable : Passes m (netlist_of m a₁.image) e
   passable = subst (λ x. Passes m (netlist_of m x.image) e) (sym opened_now) (passes m (levels a) (netlist_of m a.image) e checks)
 
-  pub made_accepted : (total : ℕ) (rk : Result (Unit {0}) StoreRefusal) → Placing m a₁.image e a₂.image (Placed total) → Keeps a₂ a₃ rk → Makes m a e a₃ (Ok total)
+  pub made_accepted : (total : ℕ) (rk : Result (Unit {0}) StoreRefusal) → Placing m a₁.image e a₂.image (Ok total) → Keeps a₂ a₃ rk → Makes m a e a₃ (Ok total)
   made_accepted total rk h keeps =
       let k : a₃ ≡ kept a₂ = keeps_some a₂ a₃ rk some keeps in
       made_ok m a a₃ e total w checks
       (record { levels = ap (λ x. x.saved) k ∙ ap (drop 1) saved_now; limit = ap (λ x. x.limit) k ∙ limit_now })
-      (subst (λ ws. Placing m a.image e ws (Placed total)) (sym (ap (λ x. x.image) k)) (subst (λ x. Placing m x.image e a₂.image (Placed total)) opened_now h))
+      (subst (λ ws. Placing m a.image e ws (Ok total)) (sym (ap (λ x. x.image) k)) (subst (λ x. Placing m x.image e a₂.image (Ok total)) opened_now h))
 
   taken_back : (rd : Result (Unit {0}) StoreRefusal) → Drops a₂ a₃ rd → a₃ ≡ a
   taken_back rd drops =
       let d : a₃ ≡ dropped a₂ = drops_some a₂ a₃ rd some drops in
       d ∙ (λ i. record { limit = limit_now i; image = newest (saved_now i); saved = drop 1 (saved_now i) })
 
-  pub made_looped : (path : Path) (rd : Result (Unit {0}) StoreRefusal) → Placing m a₁.image e a₂.image (Looped path) → Drops a₂ a₃ rd → Makes m a e a₃ (Err LoopAsked)
+  pub made_looped : (path : Path) (rd : Result (Unit {0}) StoreRefusal) → Placing m a₁.image e a₂.image (Err path) → Drops a₂ a₃ rd → Makes m a e a₃ (Err LoopAsked)
   made_looped path rd h drops =
       let back : a₃ ≡ a = taken_back rd drops in
-      let (x, among, loop) = subst (λ y. Placing m y.image e a₂.image (Looped path)) opened_now h in
+      let (x, among, loop) = subst (λ y. Placing m y.image e a₂.image (Err path)) opened_now h in
       record {
         edits = (looped x among (along path) loop, λ k lt. checks k lt, ap (λ y. board_of m y.image) back);
         stands = subst (λ y. Stands m y.image) (sym back) w.stands;
@@ -180,5 +178,5 @@ module _ (m : ℕ) (a a₁ a₂ a₃ : Meaning) (e : Edit) (w : Workable m a) (c
         untouched = back;
       }
 
-  pub loop-shown : (path : Path) → Placing m a₁.image e a₂.image (Looped path) → Loop (asked (netlist_of m a.image) e) (along path)
-  loop-shown path h = let (x, among, loop) = subst (λ y. Placing m y.image e a₂.image (Looped path)) opened_now h in loop
+  pub loop-shown : (path : Path) → Placing m a₁.image e a₂.image (Err path) → Loop (asked (netlist_of m a.image) e) (along path)
+  loop-shown path h = let (x, among, loop) = subst (λ y. Placing m y.image e a₂.image (Err path)) opened_now h in loop

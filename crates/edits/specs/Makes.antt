@@ -8,10 +8,9 @@ use Rattle.netlist.specs.declared.edit.Refusal.TheVariants.{Looped as LoopAsked}
 use Rattle.netlist.specs.Refusals.{number}
 use Rattle.netlist.specs.Places.{PutsAll}
 use Rattle.reach.specs.Listed.{along}
-use Rattle.edits.specs.declared.make.Made.{Made}
-use Rattle.edits.specs.declared.make.Made.TheVariants.{Accepted, Refused, Looped}
-use Rattle.places.specs.declared.put.Put.{Put}
-use Rattle.places.specs.declared.put.Put.TheVariants.{Placed, Looped as PutLooped}
+use Rattle.edits.specs.declared.fault.EditFault.{EditFault}
+use Rattle.edits.specs.declared.fault.EditFault.TheVariants.{Refused, Looped}
+use Rattle.reach.specs.declared.path.Path.{Path}
 use Rattle.netlist.specs.Netlist.{Netlist, Loop}
 use Rattle.netlist.specs.Edits.{Edits, asked, puts_of, signal_of}
 use Rattle.board.specs.Board.{board_of, netlist_of, order_of}
@@ -23,16 +22,16 @@ pub record Workable (m : ℕ) (a : Meaning) : Type 0 where
   pub stands : Stands m a.image
   pub room : levels a < a.limit
 
-abbrev pub reply_of : Made → Result ℕ Refusal
-reply_of (Accepted count) = Ok count
-reply_of (Refused r) = Err r
-reply_of (Looped path) = Err LoopAsked
+abbrev pub reply_of : Result ℕ EditFault → Result ℕ Refusal
+reply_of (Ok count) = Ok count
+reply_of (Err (Refused r)) = Err r
+reply_of (Err (Looped path)) = Err LoopAsked
 
 -- a path comes with refusal 25 alone, and is a loop of the netlist asked for
-abbrev pub Faults : Netlist → Edit → Made → Type 0
-Faults n e (Accepted count) = Unit {0}
-Faults n e (Refused r) = number r < 25
-Faults n e (Looped path) = Loop (asked n e) (along path)
+abbrev pub Faults : Netlist → Edit → Result ℕ EditFault → Type 0
+Faults n e (Ok count) = Unit {0}
+Faults n e (Err (Refused r)) = number r < 25
+Faults n e (Err (Looped path)) = Loop (asked n e) (along path)
 
 -- a refusal that is seen before a pin is put
 abbrev pub Early : Result ℕ Refusal → Type 0
@@ -40,10 +39,10 @@ Early (Ok count) = count ≡ 0
 Early (Err r) = number r < 25
 
 -- the netlist asked for is in the words, and the pins have their places; or it has a loop
-abbrev pub Placing : ℕ → List ℕ → Edit → List ℕ → Put → Type 0
-Placing m ws e ws' (Placed total) = Stands m ws' × (netlist_of m ws' ≡ asked (netlist_of m ws) e)
+abbrev pub Placing : ℕ → List ℕ → Edit → List ℕ → Result ℕ Path → Type 0
+Placing m ws e ws' (Ok total) = Stands m ws' × (netlist_of m ws' ≡ asked (netlist_of m ws) e)
     × PutsAll (asked (netlist_of m ws) e) (order_of m ws) (signal_of e) (puts_of (netlist_of m ws) e) (order_of m ws') total
-Placing m ws e ws' (PutLooped path) = (a : ℕ) × Among a (puts_of (netlist_of m ws) e) × Loop (asked (netlist_of m ws) e) (along path)
+Placing m ws e ws' (Err path) = (a : ℕ) × Among a (puts_of (netlist_of m ws) e) × Loop (asked (netlist_of m ws) e) (along path)
 
 -- a refused edit leaves the whole meaning of the store
 abbrev pub Untouched : Meaning → Meaning → Result ℕ Refusal → Type 0

@@ -1,13 +1,12 @@
 -- The pins of a gate are put in turn.
-use Rattle.std.specs.Prelude.{◌≡◌, ℕ, ◌<◌, ◌≤◌, List}
+use Rattle.std.specs.Prelude.{◌≡◌, ℕ, ◌<◌, ◌≤◌, List, Ok, Err, Result}
 use Rattle.words.specs.Meaning.{Meaning}
 use Rattle.reach.specs.Reach.{Among}
 use Rattle.reach.specs.Listed.{along}
 use Rattle.netlist.specs.Netlist.{Feeds, Loop}
 use Rattle.netlist.specs.Places.{place, Arranges, OrderedBut, PutsAll}
 use Rattle.board.specs.Board.{netlist_of, order_of, Sound}
-use Rattle.places.specs.declared.put.Put.{Put}
-use Rattle.places.specs.declared.put.Put.TheVariants.{Placed, Looped}
+use Rattle.reach.specs.declared.path.Path.{Path}
 
 -- Pins of gate s are on these signals; every other gate stands behind what feeds it.
 pub record ReadyAll (m : ℕ) (ws : List ℕ) (s : ℕ) (on : List ℕ) : Type 0 where
@@ -30,6 +29,6 @@ pub record PlacedAll (m : ℕ) (ws : List ℕ) (s : ℕ) (on : List ℕ) (ws' : 
   pub before : (a : ℕ) → Among a on → place (order_of m ws') a < place (order_of m ws') s
 
 -- all have their places; or one of them closes a loop of the netlist
-abbrev pub PutsPins : ℕ → Meaning → ℕ → List ℕ → Meaning → Put → Type 0
-PutsPins m before s on after (Placed total) = PlacedAll m before.image s on after.image total
-PutsPins m before s on after (Looped path) = (a : ℕ) × Among a on × Loop (netlist_of m before.image) (along path)
+abbrev pub PutsPins : ℕ → Meaning → ℕ → List ℕ → Meaning → Result ℕ Path → Type 0
+PutsPins m before s on after (Ok total) = PlacedAll m before.image s on after.image total
+PutsPins m before s on after (Err path) = (a : ℕ) × Among a on × Loop (netlist_of m before.image) (along path)

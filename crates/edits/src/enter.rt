@@ -1,19 +1,12 @@
 // The change that an edit makes of the cell of its signal. Places stay as they are.
 ghost use Rattle.std.specs.Prelude.{◌≡◌, ℕ, ◌+◌, ◌*◌, ◌<◌, ◌≤◌};
 ghost use Rattle.board.specs.Chain.{Chained, Repins};
-ghost use Rattle.board.specs.Standing.{Inside};
+ghost use Rattle.board.specs.Kinds.{word_of};
+ghost use Rattle.board.specs.Stored.{OnlyWords};
 ghost use Rattle.edits.specs.Cells.{Site, Wirable, Changed, cell_at, as_input, as_output, as_driven, as_absent, as_moved, as_wired, as_unwired};
 
-use board::{Layout, attach, detach, read, write};
+use board::{Field, Kind, StoredBoard};
 use words::Store;
-
-const ABSENT: u32 = 0;
-
-const INPUT: u32 = 1;
-
-pub(crate) const GATE: u32 = 2;
-
-pub(crate) const LATCH: u32 = 3;
 
 // The number of a pin of a signal below 1,024.
 pub(crate) fn pin_number(signal: u32, pin: u32) -> u32
@@ -23,89 +16,81 @@ pub(crate) fn pin_number(signal: u32, pin: u32) -> u32
     4 * signal.min(1023) + pin.min(3)
 }
 
-pub(crate) fn enter_input<S: Store>(store: &mut S, layout: Layout, signal: u32)
-    ensures enters { Site layout.signals (S.Store.model store.old).image signal → Changed layout.signals (S.Store.model store.old).image signal (as_input (cell_at layout.signals (S.Store.model store.old).image signal)) (S.Store.model store.new).image }
-    ensures inside { Inside (S.Store.model store.old) (S.Store.model store.new) }
-    ensures behind { S.Store.lent store.new ≡ S.Store.lent store.old }
+pub(crate) fn enter_input<S: Store>(board: &mut StoredBoard<S>, signal: u32)
+    ensures enters { Site board.old.signals board.old.words.image signal → Changed board.old.signals board.old.words.image signal (as_input (cell_at board.old.signals board.old.words.image signal)) board.new.words.image }
+    ensures only { OnlyWords board.old board.new }
 {
-    write(store, layout.kind(signal), INPUT);
+    board.set_kind(signal, Kind::Input);
 }
 
-pub(crate) fn enter_output<S: Store>(store: &mut S, layout: Layout, signal: u32, mark: u32)
-    ensures enters { Site layout.signals (S.Store.model store.old).image signal → Changed layout.signals (S.Store.model store.old).image signal (as_output (cell_at layout.signals (S.Store.model store.old).image signal) mark) (S.Store.model store.new).image }
-    ensures inside { Inside (S.Store.model store.old) (S.Store.model store.new) }
-    ensures behind { S.Store.lent store.new ≡ S.Store.lent store.old }
+pub(crate) fn enter_output<S: Store>(board: &mut StoredBoard<S>, signal: u32, mark: u32)
+    ensures enters { Site board.old.signals board.old.words.image signal → Changed board.old.signals board.old.words.image signal (as_output (cell_at board.old.signals board.old.words.image signal) mark) board.new.words.image }
+    ensures only { OnlyWords board.old board.new }
 {
-    write(store, layout.output(signal), mark);
+    board.write(Field::Output, signal, mark);
 }
 
-// A gate or a latch drives a signal that has no pins yet.
+// A gate or a latch drives a signal that has no pins yet. The row of nets is copied whole, and the first so many count.
 pub(crate) fn enter_driver<S: Store>(
-    store: &mut S,
-    layout: Layout,
+    board: &mut StoredBoard<S>,
     signal: u32,
-    kind: u32,
+    kind: Kind,
     value: u32,
     pins: u32,
     nets: [u32; 4],
 )
-    ensures enters { Wirable layout.signals (S.Store.model store.old).image signal pins nets → Changed layout.signals (S.Store.model store.old).image signal (as_driven (cell_at layout.signals (S.Store.model store.old).image signal) kind value pins nets) (S.Store.model store.new).image }
-    ensures inside { Inside (S.Store.model store.old) (S.Store.model store.new) }
-    ensures behind { S.Store.lent store.new ≡ S.Store.lent store.old }
+    ensures enters { Wirable board.old.signals board.old.words.image signal pins nets → Changed board.old.signals board.old.words.image signal (as_driven (cell_at board.old.signals board.old.words.image signal) (word_of kind) value pins nets) board.new.words.image }
+    ensures only { OnlyWords board.old board.new }
 {
-    write(store, layout.kind(signal), kind);
-    write(store, layout.value(signal), value);
-    attach_all(store, layout, signal, pins, nets);
+    board.set_kind(signal, kind);
+    board.write(Field::Value, signal, value);
+    attach_all(board, signal, pins, nets);
 }
 
-fn attach_all<S: Store>(store: &mut S, layout: Layout, signal: u32, pins: u32, nets: [u32; 4])
-    ensures attaches { Wirable layout.signals (S.Store.model store.old).image signal pins nets → Changed layout.signals (S.Store.model store.old).image signal (as_wired (cell_at layout.signals (S.Store.model store.old).image signal) pins nets) (S.Store.model store.new).image }
-    ensures inside { Inside (S.Store.model store.old) (S.Store.model store.new) }
-    ensures behind { S.Store.lent store.new ≡ S.Store.lent store.old }
+// The index of a net is the number of its pin.
+fn attach_all<S: Store>(board: &mut StoredBoard<S>, signal: u32, pins: u32, nets: [u32; 4])
+    ensures attaches { Wirable board.old.signals board.old.words.image signal pins nets → Changed board.old.signals board.old.words.image signal (as_wired (cell_at board.old.signals board.old.words.image signal) pins nets) board.new.words.image }
+    ensures only { OnlyWords board.old board.new }
 {
     for i in 0..pins.min(4) {
-        attach(store, layout, pin_number(signal, i), nets[i as usize]);
+        board.attach(pin_number(signal, i), nets[i as usize]);
     }
 }
 
 // The signal becomes absent and loses its pins.
-pub(crate) fn enter_delete<S: Store>(store: &mut S, layout: Layout, signal: u32)
-    ensures enters { Site layout.signals (S.Store.model store.old).image signal → Changed layout.signals (S.Store.model store.old).image signal (as_absent (cell_at layout.signals (S.Store.model store.old).image signal)) (S.Store.model store.new).image }
-    ensures inside { Inside (S.Store.model store.old) (S.Store.model store.new) }
-    ensures behind { S.Store.lent store.new ≡ S.Store.lent store.old }
+pub(crate) fn enter_delete<S: Store>(board: &mut StoredBoard<S>, signal: u32)
+    ensures enters { Site board.old.signals board.old.words.image signal → Changed board.old.signals board.old.words.image signal (as_absent (cell_at board.old.signals board.old.words.image signal)) board.new.words.image }
+    ensures only { OnlyWords board.old board.new }
 {
-    detach_all(store, layout, signal);
-    write(store, layout.kind(signal), ABSENT);
+    detach_all(board, signal);
+    board.set_kind(signal, Kind::Absent);
 }
 
-fn detach_all<S: Store>(store: &mut S, layout: Layout, signal: u32)
-    ensures detaches { Site layout.signals (S.Store.model store.old).image signal → Changed layout.signals (S.Store.model store.old).image signal (as_unwired (cell_at layout.signals (S.Store.model store.old).image signal) 4) (S.Store.model store.new).image }
-    ensures inside { Inside (S.Store.model store.old) (S.Store.model store.new) }
-    ensures behind { S.Store.lent store.new ≡ S.Store.lent store.old }
+fn detach_all<S: Store>(board: &mut StoredBoard<S>, signal: u32)
+    ensures detaches { Site board.old.signals board.old.words.image signal → Changed board.old.signals board.old.words.image signal (as_unwired (cell_at board.old.signals board.old.words.image signal) 4) board.new.words.image }
+    ensures only { OnlyWords board.old board.new }
 {
     for i in 0..4 {
-        release(store, layout, pin_number(signal, i));
+        release(board, pin_number(signal, i));
     }
 }
 
 // A pin is on no signal any more, whether or not it was.
-fn release<S: Store>(store: &mut S, layout: Layout, pin: u32)
-    ensures releases { Chained layout.signals (S.Store.model store.old).image → pin < 4 * layout.signals → Repins layout.signals (S.Store.model store.old).image pin 0 (S.Store.model store.new).image }
-    ensures inside { Inside (S.Store.model store.old) (S.Store.model store.new) }
-    ensures behind { S.Store.lent store.new ≡ S.Store.lent store.old }
+fn release<S: Store>(board: &mut StoredBoard<S>, pin: u32)
+    ensures releases { Chained board.old.signals board.old.words.image → pin < 4 * board.old.signals → Repins board.old.signals board.old.words.image pin 0 board.new.words.image }
+    ensures only { OnlyWords board.old board.new }
 {
-    if read(store, layout.pin(pin)) != 0 {
-        detach(store, layout, pin);
+    if board.read(Field::Pin, pin) != 0 {
+        board.detach(pin);
     }
 }
 
 // The pin comes off its signal and goes onto another.
-pub(crate) fn enter_move<S: Store>(store: &mut S, layout: Layout, signal: u32, pin: u32, net: u32)
-    ensures enters { Site layout.signals (S.Store.model store.old).image signal → pin < 4 → net < layout.signals → Changed layout.signals (S.Store.model store.old).image signal (as_moved (cell_at layout.signals (S.Store.model store.old).image signal) pin net) (S.Store.model store.new).image }
-    ensures inside { Inside (S.Store.model store.old) (S.Store.model store.new) }
-    ensures behind { S.Store.lent store.new ≡ S.Store.lent store.old }
+pub(crate) fn enter_move<S: Store>(board: &mut StoredBoard<S>, signal: u32, pin: u32, net: u32)
+    ensures enters { Site board.old.signals board.old.words.image signal → pin < 4 → net < board.old.signals → Changed board.old.signals board.old.words.image signal (as_moved (cell_at board.old.signals board.old.words.image signal) pin net) board.new.words.image }
+    ensures only { OnlyWords board.old board.new }
 {
     let number = pin_number(signal, pin);
-    release(store, layout, number);
-    attach(store, layout, number, net);
+    release(board, number);
+    board.attach(number, net);
 }

@@ -3,8 +3,9 @@
 
 mod checks;
 mod enter;
+mod fault;
 mod make;
 mod puts;
 
-pub use make::{Made, add_input, add_latch, delete_signal, make_edit, mark_output};
-pub use puts::clear_flags;
+pub use fault::EditFault;
+pub use make::{add_input, add_latch, delete_signal, make_edit, mark_output};

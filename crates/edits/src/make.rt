@@ -1,219 +1,164 @@
 // An edit on a board: its refusals, the change of the netlist, and the places.
-ghost use Rattle.std.specs.Prelude.{◌≡◌, ◌<◌, ◌≤◌, take, replicate};
+ghost use Rattle.std.specs.Prelude.{◌≡◌, ◌<◌, ◌≤◌, length, take, replicate};
 ghost use Rattle.netlist.specs.declared.edit.Edit.TheVariants.{Input, Output, Latch, Delete};
 ghost use Rattle.netlist.specs.Edits.{puts_of, signal_of};
 ghost use Rattle.board.specs.Board.{netlist_of};
-ghost use Rattle.board.specs.Standing.{Stands, Inside};
+ghost use Rattle.board.specs.Standing.{Stands};
+ghost use Rattle.board.specs.Stored.{Stays, OnlyWords};
 ghost use Rattle.edits.specs.Checks.{Passes, Plain};
 ghost use Rattle.edits.specs.Entered.{Entered};
 ghost use Rattle.edits.specs.Makes.{Workable, Makes, Placing, reply_of, Faults, Early};
 
-use crate::checks::refusal_of;
-use crate::enter::{
-    GATE, LATCH, enter_delete, enter_driver, enter_input, enter_move, enter_output,
-};
-use crate::puts::{clear_flags, put_all};
-use board::{Layout, read};
+use crate::checks::check;
+use crate::enter::{enter_delete, enter_driver, enter_input, enter_move, enter_output};
+use crate::fault::EditFault;
+use crate::puts::put_all;
+use arrayvec::ArrayVec;
+use board::{Kind, StoredBoard};
 use netlist::{Edit, Refusal};
-use places::Put;
-use reach::Path;
+use reach::{Path, clear};
 use words::Store;
 
-// What came of an edit: the sum of the counts of its puts, a refusal, or a loop.
-#[derive(Drop)]
-pub enum Made {
-    Accepted(u32),
-    Refused(Refusal),
-    Looped(Path),
-}
-
-// The signals that an edit puts pins on: the first so many of four.
-#[derive(Clone, Copy)]
-struct Nets {
-    count: u32,
-    nets: [u32; 4],
-}
-
+// Replies with the sum of the counts of its puts.
 pub fn make_edit<S: Store>(
-    store: &mut S,
-    layout: Layout,
+    board: &mut StoredBoard<S>,
     edit: Edit,
     flags: &mut [u8; 1024],
-) -> Made
-    ensures makes { Workable layout.signals (S.Store.model store.old) → Makes layout.signals (S.Store.model store.old) edit (S.Store.model store.new) (reply_of result) }
-    ensures faults { Workable layout.signals (S.Store.model store.old) → Faults (netlist_of layout.signals (S.Store.model store.old).image) edit result }
+) -> Result<u32, EditFault>
+    ensures makes { Workable board.old.signals board.old.words → Makes board.old.signals board.old.words edit board.new.words (reply_of result) }
+    ensures faults { Workable board.old.signals board.old.words → Faults (netlist_of board.old.signals board.old.words.image) edit result }
     ensures clean { flags.new ≡ replicate 1024 0 }
-    ensures behind { S.Store.lent store.new ≡ S.Store.lent store.old }
+    ensures stays { Stays board.old board.new }
 {
-    clear_flags(flags);
-    if let Some(refusal) = refusal_of(store, layout, edit) {
-        return Made::Refused(refusal);
+    clear(flags);
+    check(board, edit)?;
+    if board.open_level().is_err() {
+        return Err(EditFault::Refused(Refusal::NoLevelForMark));
     }
-    if store.open_level().is_err() {
-        return Made::Refused(Refusal::NoLevelForMark);
-    }
-    match place(store, layout, edit, flags) {
-        Put::Placed(count) => {
-            let _ = store.keep_level();
-            Made::Accepted(count)
+    match place(board, edit, flags) {
+        Ok(count) => {
+            let _ = board.keep_level();
+            Ok(count)
         }
-        Put::Looped(path) => {
-            let _ = store.drop_level();
-            Made::Looped(path)
+        Err(path) => {
+            let _ = board.drop_level();
+            Err(EditFault::from(path))
         }
     }
 }
 
 // The change of the netlist, then the puts.
-fn place<S: Store>(store: &mut S, layout: Layout, edit: Edit, flags: &mut [u8; 1024]) -> Put
-    ensures places { layout.signals ≤ 1024 → Stands layout.signals (S.Store.model store.old).image → Passes layout.signals (netlist_of layout.signals (S.Store.model store.old).image) edit → Placing layout.signals (S.Store.model store.old).image edit (S.Store.model store.new).image result }
-    ensures inside { Inside (S.Store.model store.old) (S.Store.model store.new) }
+fn place<S: Store>(
+    board: &mut StoredBoard<S>,
+    edit: Edit,
+    flags: &mut [u8; 1024],
+) -> Result<u32, Path>
+    ensures places { board.old.signals ≤ 1024 → Stands board.old.signals board.old.words.image → Passes board.old.signals (netlist_of board.old.signals board.old.words.image) edit → Placing board.old.signals board.old.words.image edit board.new.words.image result }
+    ensures only { OnlyWords board.old board.new }
     ensures clean { flags.new ≡ replicate 1024 0 }
-    ensures behind { S.Store.lent store.new ≡ S.Store.lent store.old }
 {
-    let puts = puts_of(store, layout, edit);
-    enter(store, layout, edit);
-    put_all(store, layout, signal_of(edit), puts.count, puts.nets, flags)
+    let nets = nets_to_put(board, edit);
+    enter(board, edit);
+    put_all(board, edit.signal(), nets.as_slice(), flags)
 }
 
 // An input drives the signal.
-pub fn add_input<S: Store>(store: &mut S, layout: Layout, signal: u32) -> Result<u32, Refusal>
-    ensures makes { Workable layout.signals (S.Store.model store.old) → Makes layout.signals (S.Store.model store.old) (Input signal) (S.Store.model store.new) result }
-    ensures early { Workable layout.signals (S.Store.model store.old) → Early result }
-    ensures behind { S.Store.lent store.new ≡ S.Store.lent store.old }
+pub fn add_input<S: Store>(board: &mut StoredBoard<S>, signal: u32) -> Result<u32, Refusal>
+    ensures makes { Workable board.old.signals board.old.words → Makes board.old.signals board.old.words (Input signal) board.new.words result }
+    ensures early { Workable board.old.signals board.old.words → Early result }
+    ensures stays { Stays board.old board.new }
 {
-    make_plain(store, layout, Edit::Input { signal })
+    make_plain(board, Edit::Input { signal })
 }
 
 // The signal is marked as an output, or not any more.
 pub fn mark_output<S: Store>(
-    store: &mut S,
-    layout: Layout,
+    board: &mut StoredBoard<S>,
     signal: u32,
     mark: u32,
 ) -> Result<u32, Refusal>
-    ensures makes { Workable layout.signals (S.Store.model store.old) → Makes layout.signals (S.Store.model store.old) (Output signal mark) (S.Store.model store.new) result }
-    ensures early { Workable layout.signals (S.Store.model store.old) → Early result }
-    ensures behind { S.Store.lent store.new ≡ S.Store.lent store.old }
+    ensures makes { Workable board.old.signals board.old.words → Makes board.old.signals board.old.words (Output signal mark) board.new.words result }
+    ensures early { Workable board.old.signals board.old.words → Early result }
+    ensures stays { Stays board.old board.new }
 {
-    make_plain(store, layout, Edit::Output { signal, mark })
+    make_plain(board, Edit::Output { signal, mark })
 }
 
 // A latch drives the signal.
 pub fn add_latch<S: Store>(
-    store: &mut S,
-    layout: Layout,
+    board: &mut StoredBoard<S>,
     signal: u32,
     net: u32,
     start: u32,
 ) -> Result<u32, Refusal>
-    ensures makes { Workable layout.signals (S.Store.model store.old) → Makes layout.signals (S.Store.model store.old) (Latch signal net start) (S.Store.model store.new) result }
-    ensures early { Workable layout.signals (S.Store.model store.old) → Early result }
-    ensures behind { S.Store.lent store.new ≡ S.Store.lent store.old }
+    ensures makes { Workable board.old.signals board.old.words → Makes board.old.signals board.old.words (Latch signal net start) board.new.words result }
+    ensures early { Workable board.old.signals board.old.words → Early result }
+    ensures stays { Stays board.old board.new }
 {
-    make_plain(store, layout, Edit::Latch { signal, net, start })
+    make_plain(board, Edit::Latch { signal, net, start })
 }
 
 // The signal becomes absent.
-pub fn delete_signal<S: Store>(store: &mut S, layout: Layout, signal: u32) -> Result<u32, Refusal>
-    ensures makes { Workable layout.signals (S.Store.model store.old) → Makes layout.signals (S.Store.model store.old) (Delete signal) (S.Store.model store.new) result }
-    ensures early { Workable layout.signals (S.Store.model store.old) → Early result }
-    ensures behind { S.Store.lent store.new ≡ S.Store.lent store.old }
+pub fn delete_signal<S: Store>(board: &mut StoredBoard<S>, signal: u32) -> Result<u32, Refusal>
+    ensures makes { Workable board.old.signals board.old.words → Makes board.old.signals board.old.words (Delete signal) board.new.words result }
+    ensures early { Workable board.old.signals board.old.words → Early result }
+    ensures stays { Stays board.old board.new }
 {
-    make_plain(store, layout, Edit::Delete { signal })
+    make_plain(board, Edit::Delete { signal })
 }
 
 // An edit that puts no pin is not taken back midway: it needs no level.
-fn make_plain<S: Store>(store: &mut S, layout: Layout, edit: Edit) -> Result<u32, Refusal>
+fn make_plain<S: Store>(board: &mut StoredBoard<S>, edit: Edit) -> Result<u32, Refusal>
     requires { Plain edit }
-    ensures makes { Workable layout.signals (S.Store.model store.old) → Makes layout.signals (S.Store.model store.old) edit (S.Store.model store.new) result }
-    ensures early { Workable layout.signals (S.Store.model store.old) → Early result }
-    ensures behind { S.Store.lent store.new ≡ S.Store.lent store.old }
+    ensures makes { Workable board.old.signals board.old.words → Makes board.old.signals board.old.words edit board.new.words result }
+    ensures early { Workable board.old.signals board.old.words → Early result }
+    ensures stays { Stays board.old board.new }
 {
-    match refusal_of(store, layout, edit) {
-        Some(refusal) => Err(refusal),
-        None => {
-            enter(store, layout, edit);
-            Ok(0)
+    check(board, edit)?;
+    enter(board, edit);
+    Ok(0)
+}
+
+// The signals that an edit puts pins on. A latch's pin moves no place.
+fn nets_to_put<S: Store>(board: &StoredBoard<S>, edit: Edit) -> ArrayVec<u32, 4>
+    ensures { result.items ≡ puts_of (netlist_of board.now.signals board.now.words.image) edit }
+{
+    match edit {
+        Edit::Gate { pins, nets, .. } => first_nets(pins, nets),
+        Edit::Move { signal, net, .. } if board.kind(signal) == Kind::Gate => {
+            first_nets(1, [net; 4])
         }
+        _ => ArrayVec::new(),
     }
 }
 
-fn signal_of(edit: Edit) -> u32
-    ensures { result ≡ signal_of edit }
+// The first so many of four.
+fn first_nets(count: u32, nets: [u32; 4]) -> ArrayVec<u32, 4>
+    ensures { result.items ≡ take count nets }
 {
-    match edit {
-        Edit::Input { signal } => signal,
-        Edit::Output { signal, mark: _ } => signal,
-        Edit::Gate {
-            signal,
-            pins: _,
-            nets: _,
-            table: _,
-        } => signal,
-        Edit::Latch {
-            signal,
-            net: _,
-            start: _,
-        } => signal,
-        Edit::Delete { signal } => signal,
-        Edit::Move {
-            signal,
-            pin: _,
-            net: _,
-        } => signal,
-    }
-}
-
-// A latch's pin moves no place.
-fn puts_of<S: Store>(store: &S, layout: Layout, edit: Edit) -> Nets
-    ensures { signal_of edit < layout.signals → take result.count result.nets ≡ puts_of (netlist_of layout.signals (S.Store.model store.now).image) edit }
-{
-    match edit {
-        Edit::Gate {
-            signal: _,
-            pins,
-            nets,
-            table: _,
-        } => Nets { count: pins, nets },
-        Edit::Move {
-            signal,
-            pin: _,
-            net,
-        } => Nets {
-            count: if read(store, layout.kind(signal)) == GATE {
-                1
-            } else {
-                0
-            },
-            nets: [net; 4],
-        },
-        _ => Nets {
-            count: 0,
-            nets: [0; 4],
-        },
-    }
+    let mut first = ArrayVec::from(nets);
+    first.truncate(count as usize);
+    first
 }
 
 // The words change so that they tell the netlist asked for.
-fn enter<S: Store>(store: &mut S, layout: Layout, edit: Edit)
-    ensures enters { layout.signals ≤ 1024 → Stands layout.signals (S.Store.model store.old).image → Passes layout.signals (netlist_of layout.signals (S.Store.model store.old).image) edit → Entered layout.signals (S.Store.model store.old).image edit (S.Store.model store.new).image }
-    ensures inside { Inside (S.Store.model store.old) (S.Store.model store.new) }
-    ensures behind { S.Store.lent store.new ≡ S.Store.lent store.old }
+fn enter<S: Store>(board: &mut StoredBoard<S>, edit: Edit)
+    ensures enters { board.old.signals ≤ 1024 → Stands board.old.signals board.old.words.image → Passes board.old.signals (netlist_of board.old.signals board.old.words.image) edit → Entered board.old.signals board.old.words.image edit board.new.words.image }
+    ensures only { OnlyWords board.old board.new }
 {
     match edit {
-        Edit::Input { signal } => enter_input(store, layout, signal),
-        Edit::Output { signal, mark } => enter_output(store, layout, signal, mark),
+        Edit::Input { signal } => enter_input(board, signal),
+        Edit::Output { signal, mark } => enter_output(board, signal, mark),
         Edit::Gate {
             signal,
             pins,
             nets,
             table,
-        } => enter_driver(store, layout, signal, GATE, table, pins, nets),
-        Edit::Latch { signal, net, start } => enter_driver(
-            store, layout, signal, LATCH, start, 1, [net; 4],
-        ),
-        Edit::Delete { signal } => enter_delete(store, layout, signal),
-        Edit::Move { signal, pin, net } => enter_move(store, layout, signal, pin, net),
+        } => enter_driver(board, signal, Kind::Gate, table, pins, nets),
+        Edit::Latch { signal, net, start } => {
+            enter_driver(board, signal, Kind::Latch, start, 1, [net; 4])
+        }
+        Edit::Delete { signal } => enter_delete(board, signal),
+        Edit::Move { signal, pin, net } => enter_move(board, signal, pin, net),
     }
 }

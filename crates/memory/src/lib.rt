@@ -1,11 +1,14 @@
 // The memory that a host lends to a store of words, with room for either store.
 #![tactic(auto)]
 
-ghost use Rattle.std.specs.Prelude.{◌≡◌, IfOk, replicate, vec_len};
-ghost use Rattle.memory.specs.Room.{room, Gives};
+ghost use Rattle.std.specs.Prelude.{◌≡◌, IfOk, replicate};
+ghost use Rattle.std.specs.Borrow.{sem};
+ghost use Rattle.memory.specs.Room.{Host, room, Tests, Gives};
+ghost use Rattle.memory.specs.Lending.{LendsWords};
 
 use std::alloc::{AllocError, Global};
-use words::{InverseLog, LEVELS_MOST, Snapshot, Store, WORDS_MOST};
+use std::marker::Model;
+use words::{InverseLog, LEVELS_MOST, Snapshot, Store, StoreRefusal, WORDS_MOST};
 
 #[derive(Drop)]
 pub struct Memory {
@@ -13,14 +16,24 @@ pub struct Memory {
     // N and D of the stores
     size: usize,
     limit: usize,
-    ghost roomy: { vec_len words ≡ room size limit },
+}
+
+impl Model for Memory {
+    ghost use Rattle.std.specs.Prelude.{◌≡◌, vec_len};
+    ghost use Rattle.memory.specs.Room.{Host, room};
+
+    ghost Value = { Host };
+
+    ghost view = { λ m. record { words = m.words.items; size = m.size; limit = m.limit } };
+
+    ghost invariant = { λ m. vec_len m.words ≡ room m.size m.limit };
 }
 
 impl Memory {
     // Memory for a store of `size` words and `limit` levels, all of it `fill`. For more words or levels than a store can have it has room for
     // the most: making such a store refuses by itself.
     pub fn new(heap: Global, size: usize, limit: usize, fill: u32) -> Result<Memory, AllocError>
-        ensures { IfOk result (λ m. (m.size ≡ size) × (m.limit ≡ limit) × (m.words.items ≡ replicate (room size limit) fill)) }
+        ensures { IfOk result (λ m. m ≡ record { words = replicate (room size limit) fill; size = size; limit = limit }) }
     {
         let long = size.min(WORDS_MOST) * (3 * limit.min(LEVELS_MOST) + 2);
         Ok(Memory {
@@ -30,9 +43,17 @@ impl Memory {
         })
     }
 
+    // Whether stores of these N and D are served.
+    pub fn test(&self) -> Result<(), StoreRefusal>
+        ensures { Tests self.now result }
+    {
+        InverseLog::test(&self.words, self.size, self.limit)
+    }
+
     // An inverse log over the memory.
     pub fn log(&mut self) -> InverseLog<'_>
-        ensures { Gives self.old.size self.old.limit (⟦<InverseLog<'static> as Store>⟧.model result) self.old.words.items result.words.now }
+        ensures* lends { sem 𝓛 (LendsWords self.entry result.words) }
+        ensures gives { Gives self.old (⟦<InverseLog<'static> as Store>⟧.model result) result.words.now }
     {
         let size = self.size;
         let limit = self.limit;
@@ -41,7 +62,8 @@ impl Memory {
 
     // A snapshot over the memory.
     pub fn snapshot(&mut self) -> Snapshot<'_>
-        ensures { Gives self.old.size self.old.limit (⟦<Snapshot<'static> as Store>⟧.model result) self.old.words.items result.words.now }
+        ensures* lends { sem 𝓛 (LendsWords self.entry result.words) }
+        ensures gives { Gives self.old (⟦<Snapshot<'static> as Store>⟧.model result) result.words.now }
     {
         let size = self.size;
         let limit = self.limit;
@@ -60,6 +82,7 @@ mod tests {
         assert_eq!(rt; memory.log().size(), 5);
         assert_eq!(rt; memory.snapshot().size(), 5);
         assert_eq!(rt; memory.snapshot().get(4), Some(0));
+        assert_eq!(rt; memory.test(), Ok(()));
         Ok(())
     }
 
@@ -68,6 +91,7 @@ mod tests {
         let mut memory = Memory::new(rt.alloc(), 65537, 2, 7)?;
         assert_eq!(rt; memory.log().size(), 0);
         assert_eq!(rt; memory.snapshot().size(), 0);
+        assert_eq!(rt; memory.test(), Err(StoreRefusal::Unfit));
         Ok(())
     }
 }

@@ -1,8 +1,8 @@
 -- Where a name stands, as names are added and taken back.
-use Rattle.std.proofs.Common.{◌≡◌, ℕ, zero, suc, pred, ◌<◌, ◌≤◌, Bool, true, false, cond, ◌⊎◌, List, [], ◌∷◌, ◌++◌, map, length, get_or, is_some, Some, None, Ok, Err, Option, Result, sym, refl, ap, ◌∙◌, subst, inl, inr, ⊎_elim, arith, MatchResult}
+use Rattle.std.proofs.Common.{◌≡◌, ℕ, suc, ◌<◌, ◌≤◌, Bool, true, false, cond, ◌⊎◌, List, [], ◌∷◌, ◌++◌, length, get_or, is_some, Some, None, Ok, Err, Option, Result, sym, refl, ap, ◌∙◌, subst, inl, inr, ⊎_elim, arith, Bor, MatchOption, MatchResult}
 use Rattle.std.specs.Cmp.Lexicographic.{nat_list_eq_equiv}
 use Rattle.std.proofs.lemmas.List.{get_or_append_left, get_or_push, length-append}
-use Rattle.std.proofs.lemmas.Option.{slice_get-get_or}
+use Rattle.std.proofs.lemmas.Option.{slice_get-get_or, slice_get_cases, slice_get_within}
 use Rattle.std.proofs.lemmas.Bool.{cond-true, cond-false, cases_Bool, cases_lt, lt-ltb, le-ltb}
 use Rattle.std.specs.Str.{bytes_eq as same_text}
 use Rattle.std.specs.List.{slice_get}
@@ -10,13 +10,7 @@ use Rattle.std.specs.Option.{option_map}
 use Rattle.names.specs.declared.faults.NameFault.{NameFault}
 use Rattle.names.specs.declared.faults.NameFault.TheVariants.{Memory}
 use Rattle.names.specs.Numbers.{Adds}
-use Rattle.names.specs.Names.{position, coded, Apart, added, below}
-
-pub same_coded : (a b : Option ℕ) → coded a ≡ coded b → a ≡ b
-same_coded None None e = refl
-same_coded None (Some j) e = absurd (omega arith)
-same_coded (Some i) None e = absurd (omega arith)
-same_coded (Some i) (Some j) e = ap Some (ap pred e)
+use Rattle.names.specs.Names.{position, Apart, added, below}
 
 abbrev or_else : Option ℕ → Option ℕ → Option ℕ
 or_else None b = b
@@ -56,14 +50,14 @@ some_or_none (Some i) = inr (i, refl)
 
 -- a number lies within the list
 pub position_within : (ns : List (List ℕ)) (q : List ℕ) (i : ℕ) → position ns q ≡ Some i → i < length ns
-position_within [] q i e = let z : ◌≡◌ {A = ℕ} 0 1 = cc in absurd (omega arith)
+position_within [] q i e = cc
 position_within (n ∷ ns) q i e =
     ⊎_elim
     (λ t. let f : Some 0 ≡ Some i = sym (cond-true (same_text q n) (Some 0) (option_map suc (position ns q)) t) ∙ e in let g : 0 ≡ i = cc in omega arith)
     (λ t.
     let f : option_map suc (position ns q) ≡ Some i = sym (cond-false (same_text q n) (Some 0) (option_map suc (position ns q)) t) ∙ e in
     ⊎_elim
-    (λ none. let g : None ≡ Some i = sym (ap (option_map suc) none) ∙ f in let z : ◌≡◌ {A = ℕ} 0 1 = cc in absurd (omega arith))
+    (λ none. let g : None ≡ Some i = sym (ap (option_map suc) none) ∙ f in cc)
     (λ some.
     let g : Some (suc some.0) ≡ Some i = sym (ap (option_map suc) some.1) ∙ f in
     let k : suc some.0 ≡ i = cc in
@@ -77,11 +71,11 @@ apart_push ns w h new i lt =
     ⊎_elim
     (λ below.
     let x = get_or_append_left ns (w ∷ []) [] i below in
-    ap coded (ap (position (ns ++ w ∷ [])) x ∙ position_known ns w (get_or ns i []) i (same_coded (position ns (get_or ns i [])) (Some i) (h i below))))
+    ap (position (ns ++ w ∷ [])) x ∙ position_known ns w (get_or ns i []) i (h i below))
     (λ past.
     let is : length ns ≡ i = omega (arith, length-append ns (w ∷ [])) in
     let x = get_or_push ns w [] i is in
-    ap coded (ap (position (ns ++ w ∷ [])) x ∙ position_last ns w new ∙ ap Some is))
+    ap (position (ns ++ w ∷ [])) x ∙ position_last ns w new ∙ ap Some is)
     (cases_lt i (length ns))
 
 module _ (ns : List (List ℕ)) (w : List ℕ) (h : Apart (ns ++ w ∷ [])) where
@@ -89,7 +83,7 @@ module _ (ns : List (List ℕ)) (w : List ℕ) (h : Apart (ns ++ w ∷ [])) wher
   fresh-pop =
       let long = length-append ns (w ∷ []) in
       let at : position (ns ++ w ∷ []) w ≡ Some (length ns) =
-      ap (position (ns ++ w ∷ [])) (sym (get_or_push ns w [] (length ns) refl)) ∙ same_coded _ (Some (length ns)) (h (length ns) (omega arith)) in
+      ap (position (ns ++ w ∷ [])) (sym (get_or_push ns w [] (length ns) refl)) ∙ h (length ns) (omega arith) in
       ⊎_elim (λ none. none)
       (λ some.
       let k : Some some.0 ≡ Some (length ns) = sym (position_known ns w w some.0 some.1) ∙ at in
@@ -101,7 +95,7 @@ module _ (ns : List (List ℕ)) (w : List ℕ) (h : Apart (ns ++ w ∷ [])) wher
   apart_pop i lt =
       let x = get_or_append_left ns (w ∷ []) [] i lt in
       let at : position (ns ++ w ∷ []) (get_or ns i []) ≡ Some i =
-      ap (position (ns ++ w ∷ [])) (sym x) ∙ same_coded _ (Some i) (h i (omega (arith, length-append ns (w ∷ [])))) in
+      ap (position (ns ++ w ∷ [])) (sym x) ∙ h i (omega (arith, length-append ns (w ∷ []))) in
       ⊎_elim
       (λ none.
       ⊎_elim
@@ -109,24 +103,25 @@ module _ (ns : List (List ℕ)) (w : List ℕ) (h : Apart (ns ++ w ∷ [])) wher
       let k : Some (length ns) ≡ Some i = sym (position-push ns w (get_or ns i []) ∙ ap (λ o. or_else o (cond (same_text (get_or ns i []) w) (Some (length ns)) None)) none ∙ cond-true (same_text (get_or ns i []) w) (Some (length ns)) None t) ∙ at in
       let e : length ns ≡ i = cc in
       absurd (omega arith))
-      (λ t. ap coded (sym (position_other ns w (get_or ns i []) t) ∙ at))
+      (λ t. sym (position_other ns w (get_or ns i []) t) ∙ at)
       (cases_Bool (same_text (get_or ns i []) w)))
       (λ some.
       let k : Some some.0 ≡ Some i = sym (position_known ns w (get_or ns i []) some.0 some.1) ∙ at in
-      ap coded (some.1 ∙ k))
+      some.1 ∙ k)
       (some_or_none (position ns (get_or ns i [])))
-
-pub nth_map : {X Y : Type 0} (f : X → Y) (xs : List X) (i : ℕ) → slice_get (map f xs) i ≡ option_map f (slice_get xs i)
-nth_map f [] i = refl
-nth_map f (x ∷ xs) zero = refl
-nth_map f (x ∷ xs) (suc i) = nth_map f xs i
 
 -- the name at i has the number i
 pub number_at : (ns : List (List ℕ)) → Apart ns → (i : ℕ) (x : List ℕ) → i < length ns → slice_get ns i ≡ Some x → position ns x ≡ Some i
 number_at ns h i x lt e =
     let f : Some (get_or ns i []) ≡ Some x = sym (slice_get-get_or ns i [] lt) ∙ e in
     let g : get_or ns i [] ≡ x = cc in
-    ap (position ns) (sym g) ∙ same_coded (position ns (get_or ns i [])) (Some i) (h i lt)
+    ap (position ns) (sym g) ∙ h i lt
+
+-- the answer to a number: the name that has it, or none past the end
+pub name_numbered : (ns : List (List ℕ)) → Apart ns → (i : ℕ) (o : Option (Bor (List ℕ))) → option_map (λ x. x.now) o ≡ slice_get ns i → MatchOption o (length ns ≤ i) (λ x. position ns x.now ≡ Some i)
+name_numbered ns h i None e =
+    ⊎_elim (λ inside. let f : None ≡ Some inside.0 = e ∙ inside.2 in cc) (λ past. past.0) (slice_get_cases ns i).1
+name_numbered ns h i (Some x) e = number_at ns h i x.now (slice_get_within ns i x.now (sym e)) (sym e)
 
 -- ---- one name added
 module _ (ns : List (List ℕ)) (w : List ℕ) where

@@ -1,24 +1,19 @@
 -- Names, by number: a list that only grows.
 use Rattle.std.specs.Prelude.{◌≡◌, ℕ, suc, ◌<◌, Bool, false, cond, List, [], ◌∷◌, ◌++◌, map, length, is_some, Some, None, vec_items, Option, Vec, nat_lt, slice_index_or}
+use Rattle.std.specs.List.{list_all}
 use Rattle.std.specs.Str.{bytes_eq as same_text}
 use Rattle.std.specs.Option.{option_map}
 use Rattle.std.specs.declared.alloc.Global.{Global}
 use Rattle.text.specs.declared.words.Word.{Word}
-use Rattle.text.specs.Rules.{every}
 
 -- the number of a name: the place where it stands first
 abbrev pub position : List (List ℕ) → List ℕ → Option ℕ
 position [] q = None
 position (n ∷ ns) q = cond (same_text q n) (Some 0) (option_map suc (position ns q))
 
--- a number or none, as one number: equal answers have equal codes
-abbrev pub coded : Option ℕ → ℕ
-coded None = 0
-coded (Some i) = suc i
-
 -- each name's number is its place, so that no name stands twice
 abbrev pub Apart : List (List ℕ) → Type 0
-Apart ns = (i : ℕ) → i < length ns → coded (position ns (slice_index_or ns i [])) ≡ coded (Some i)
+Apart ns = (i : ℕ) → i < length ns → position ns (slice_index_or ns i []) ≡ Some i
 
 -- what has a number keeps it
 abbrev pub Stays : List (List ℕ) → List (List ℕ) → Type 0
@@ -40,7 +35,7 @@ below m (Some i) = nat_lt i m
 
 -- each name of the line has a number below m once all are entered
 abbrev pub fits : ℕ → List (List ℕ) → List (List ℕ) → Bool
-fits m ns ws = every (λ w. below m (position (entered ns ws) w)) ws
+fits m ns ws = list_all (λ w. below m (position (entered ns ws) w)) ws
 
 -- the bytes of the words of a line
 abbrev pub spellings : List Word → List (List ℕ)

@@ -1,5 +1,7 @@
 -- What the calls on a name table answer, and the number of each fault.
-use Rattle.std.specs.Prelude.{◌≡◌, ℕ, true, false, List, Some, None, Ok, Err, Option, Result}
+use Rattle.std.specs.Prelude.{◌≡◌, ℕ, codes, true, false, List, ◌++◌, Some, None, Ok, Err, Option, Result}
+use Rattle.std.specs.Fmt.{decimal}
+use Rattle.std.specs.Option.{option_map_or}
 use Rattle.names.specs.declared.faults.NameFault.{NameFault}
 use Rattle.names.specs.declared.faults.NameFault.TheVariants.{NoRoom, Memory}
 use Rattle.names.specs.Names.{position, below, added, entered, fits}
@@ -8,6 +10,10 @@ use Rattle.names.specs.Names.{position, below, added, entered, fits}
 abbrev pub name_fault : NameFault → Option ℕ
 name_fault NoRoom = Some 36
 name_fault Memory = None
+
+-- how a fault is printed
+abbrev pub name_fault_text : NameFault → List ℕ
+name_fault_text f = option_map_or (λ n. codes "fault " ++ decimal n) (name_fault f) (codes "no memory")
 
 -- ns becomes new as the words ws are entered under room m: all of them, or none
 abbrev pub Enters : ℕ → List (List ℕ) → List (List ℕ) → List (List ℕ) → Result (Unit {0}) NameFault → Type 0

@@ -4,6 +4,8 @@ ghost use Rattle.names.specs.Numbers.{name_fault};
 ghost use Rattle.names.specs.declared.faults.NameFault.TheVariants.{Memory};
 
 use std::alloc::{AllocError, AllocFailed};
+use std::error::Error;
+use std::fmt;
 
 #[derive(Clone, Copy, PartialEq, Eq, Debug)]
 pub enum NameFault {
@@ -24,6 +26,22 @@ impl NameFault {
     }
 }
 
+impl fmt::Display for NameFault {
+    ghost use Rattle.std.specs.Prelude.{Some};
+    ghost use Rattle.names.specs.Numbers.{name_fault_text};
+
+    ghost output = { λ f. Some (name_fault_text f) };
+
+    fn fmt<W: fmt::Write>(&self, f: &mut fmt::Formatter<W>) -> fmt::Result {
+        match self.number() {
+            Some(number) => write!(f, "fault {number}"),
+            None => f.write_str("no memory"),
+        }
+    }
+}
+
+impl Error for NameFault {}
+
 impl From<AllocError> for NameFault {
     ghost from_gives = { λ _ r. r ≡ Memory };
 
@@ -32,6 +50,7 @@ impl From<AllocError> for NameFault {
     }
 }
 
+// Apart from that of AllocError: `insert` hands back what it could not store, in an error of its own.
 impl<T: Drop> From<AllocFailed<T>> for NameFault {
     ghost from_gives = { λ _ r. r ≡ Memory };
 

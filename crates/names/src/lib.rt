@@ -2,6 +2,7 @@
 #![tactic(auto)]
 
 mod faults;
+mod signals;
 mod table;
 
 pub use faults::NameFault;

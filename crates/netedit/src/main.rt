@@ -17,50 +17,30 @@ enum Task {
     Play(Shape),
     CheckFile,
     CheckScript,
-    Unknown,
 }
 
-fn asked(first: Option<&str>, second: Option<&str>) -> anyhow::Result<Task> {
-    let (Some(first), Some(second)) = (first, second) else {
-        return Ok(if first.is_none() {
-            Task::Play(Shape { size: 8, limit: 3 })
-        } else {
-            Task::Unknown
-        });
-    };
-    if first == "check" {
-        return Ok(match second {
-            "file" => Task::CheckFile,
-            "script" => Task::CheckScript,
-            _ => Task::Unknown,
-        });
+fn asked(arguments: &[&str]) -> anyhow::Result<Task> {
+    match arguments {
+        [] => Ok(Task::Play(Shape { size: 8, limit: 3 })),
+        ["check", "file"] => Ok(Task::CheckFile),
+        ["check", "script"] => Ok(Task::CheckScript),
+        ["check", _] => Err(anyhow!(USAGE)),
+        [size, limit] => Ok(Task::Play(Shape {
+            size: size.parse()?,
+            limit: limit.parse()?,
+        })),
+        _ => Err(anyhow!(USAGE)),
     }
-    Ok(Task::Play(Shape {
-        size: first.parse::<usize>()?,
-        limit: second.parse::<usize>()?,
-    }))
 }
 
 fn run(rt: &HostRuntime) -> anyhow::Result<()> {
-    let mut arguments = env::args(rt)?;
-    let _ = arguments.next();
-    let first = arguments.next();
-    let second = arguments.next();
-    if arguments.next().is_some() {
-        return Err(anyhow!(USAGE));
-    }
-    match asked(as_text(&first), as_text(&second))? {
+    let heap = rt.alloc();
+    let arguments: Vec<String> = env::args(rt)?.skip(1).collect(heap)?;
+    let words: Vec<&str> = arguments.iter().map(|a| a.as_str()).collect(heap)?;
+    match asked(words.as_slice())? {
         Task::Play(shape) => play_input(rt, shape),
         Task::CheckFile => check_input::<File>(rt),
         Task::CheckScript => check_input::<Script>(rt),
-        Task::Unknown => Err(anyhow!(USAGE)),
-    }
-}
-
-fn as_text(argument: &Option<String>) -> Option<&str> {
-    match argument {
-        Some(text) => Some(text.as_str()),
-        None => None,
     }
 }
 

@@ -1,9 +1,10 @@
 // Store commands from standard input, one a line, played on both stores over lent memory.
 use anyhow::anyhow;
-use std::alloc::Global;
+use memory::Memory;
+use std::fmt;
 use std::io::{BufRead, BufReader};
 use store_script::{Both, Command, image_of, parse, play_both};
-use words::{InverseLog, LEVELS_MOST, Snapshot, Store, StoreRefusal, WORDS_MOST};
+use words::{Store, StoreRefusal};
 
 // N and D of the stores
 #[derive(Clone, Copy)]
@@ -15,115 +16,90 @@ pub struct Shape {
 // Plays every line on an inverse log and a snapshot of one shape.
 pub fn play_input(rt: &HostRuntime, shape: Shape) -> anyhow::Result<()> {
     let heap = rt.alloc();
-    let size = shape.size.min(WORDS_MOST);
-    let limit = shape.limit.min(LEVELS_MOST);
-    let mut log_memory = vec![in heap; 0u32; size * (3 * limit + 2)]?;
-    let mut snapshot_memory = vec![in heap; 0u32; size * (limit + 1)]?;
-    if InverseLog::test(&log_memory, shape.size, shape.limit).is_err() {
-        return Err(anyhow!("N is 0 to 65536 and D is 2 to 8"));
-    }
-    let mut log = InverseLog::new(&mut log_memory, shape.size, shape.limit);
-    let mut snapshot = Snapshot::new(&mut snapshot_memory, shape.size, shape.limit);
-    play_lines(rt, &mut log, &mut snapshot)
+    let mut log_memory = Memory::new(heap, shape.size, shape.limit, 0)?;
+    let mut snapshot_memory = Memory::new(heap, shape.size, shape.limit, 0)?;
+    log_memory
+        .test()
+        .map_err(|_| anyhow!("N is 0 to 65536 and D is 2 to 8"))?;
+    let stores = Pair {
+        first: log_memory.log(),
+        second: snapshot_memory.snapshot(),
+    };
+    play_lines(rt, stores)
 }
 
-fn play_lines<A: Store, B: Store>(
+fn play_lines<A: Store + Drop, B: Store + Drop>(
     rt: &HostRuntime,
-    first: &mut A,
-    second: &mut B,
+    mut stores: Pair<A, B>,
 ) -> anyhow::Result<()> {
     let heap = rt.alloc();
-    let mut input = BufReader::new(heap, rt.stdin())?;
-    for number in 1..u64::MAX {
-        let mut line = Vec::new(heap);
-        if input.read_until(b'\n', &mut line)? == 0 {
-            break;
-        }
-        answer(rt, number, line.as_slice(), first, second)?;
-    }
-    Ok(())
-}
-
-// A line without the byte that ends it.
-fn trimmed(line: &[u8]) -> &[u8] {
-    match line {
-        [front @ .., b'\n'] => front,
-        _ => line,
-    }
-}
-
-fn answer<A: Store, B: Store>(
-    rt: &HostRuntime,
-    number: u64,
-    line: &[u8],
-    first: &mut A,
-    second: &mut B,
-) -> anyhow::Result<()> {
-    match parse(trimmed(line)) {
-        None => println!(rt;
-            "line {number}: no command; a line is one of: set AT WORD, open, keep, drop, show"
-        )?,
-        Some(command) => {
-            let replies = play_both(first, second, command);
-            report(rt, number, command, replies, first, second)?;
+    let lines = BufReader::new(heap, rt.stdin())?.split(heap, b'\n');
+    for (number, line) in (1u64..).zip(lines) {
+        match parse(line?.as_slice()) {
+            None => println!(rt;
+                "line {number}: no command; a line is one of: set AT WORD, open, keep, drop, show"
+            )?,
+            Some(command) => stores.play(rt, number, command)?,
         }
     }
     Ok(())
 }
 
-fn report<A: Store, B: Store>(
-    rt: &HostRuntime,
-    number: u64,
-    command: Command,
-    replies: Both,
-    first: &A,
-    second: &B,
-) -> anyhow::Result<()> {
-    let heap = rt.alloc();
-    let Both {
-        first: reply,
-        second: other,
-    } = replies;
-    let said = reply_text(heap, command, reply)?;
-    let levels = first.levels();
-    let image = image_of(heap, first)?;
-    let agree = reply == other && levels == second.levels() && image == image_of(heap, second)?;
-    let agreement = if agree {
-        "both agree"
-    } else {
-        "THE STORES DIFFER"
-    };
-    let shown = image_text(heap, image.as_slice())?;
-    println!(rt; "line {number}: {said}; levels {levels}; image{shown}; {agreement}")?;
-    Ok(())
+// Two stores that have to agree.
+#[derive(Drop)]
+struct Pair<A, B> {
+    first: A,
+    second: B,
 }
 
-fn reply_text(
-    heap: Global,
-    command: Command,
-    reply: Result<(), StoreRefusal>,
-) -> anyhow::Result<String> {
-    let text = match command {
-        Command::Set { at, word } => format!(in heap; "set {at} {word}")?,
-        Command::Open => String::from_str(heap, "open")?,
-        Command::Keep => String::from_str(heap, "keep")?,
-        Command::Drop => String::from_str(heap, "drop")?,
-        Command::Show => String::from_str(heap, "show")?,
-    };
-    match reply {
-        Ok(()) => Ok(format!(in heap; "{text}: ok")?),
-        Err(refusal) => {
-            let code = refusal.number();
-            Ok(format!(in heap; "{text}: refused {code}")?)
+impl<A: Store, B: Store> Pair<A, B> {
+    // Plays the command of a line on both, and prints what came of it.
+    fn play(&mut self, rt: &HostRuntime, number: u64, command: Command) -> anyhow::Result<()> {
+        let Both {
+            first: reply,
+            second: other,
+        } = play_both(&mut self.first, &mut self.second, command);
+        let heap = rt.alloc();
+        let image = image_of(heap, &self.first)?;
+        let levels = self.first.levels();
+        let agree = reply == other
+            && levels == self.second.levels()
+            && image == image_of(heap, &self.second)?;
+        println!(rt;
+            "line {number}: {command}: {}; levels {levels}; image{}; {}",
+            Said(reply),
+            Words(image.as_slice()),
+            if agree {
+                "both agree"
+            } else {
+                "THE STORES DIFFER"
+            }
+        )?;
+        Ok(())
+    }
+}
+
+// A reply, and the words of an image, as they are printed.
+#[derive(Clone, Copy)]
+struct Said(Result<(), StoreRefusal>);
+
+impl fmt::Display for Said {
+    fn fmt<W: fmt::Write>(&self, f: &mut fmt::Formatter<W>) -> fmt::Result {
+        match self.0 {
+            Ok(()) => write!(f, "ok"),
+            Err(refusal) => write!(f, "refused {}", refusal.number()),
         }
     }
 }
 
-fn image_text(heap: Global, image: &[u32]) -> anyhow::Result<String> {
-    let mut text = String::new(heap);
-    for word in image {
-        let shown = format!(in heap; " {word}")?;
-        text.push_str(shown.as_str())?;
+#[derive(Clone, Copy)]
+struct Words<'a>(&'a [u32]);
+
+impl fmt::Display for Words<'_> {
+    fn fmt<W: fmt::Write>(&self, f: &mut fmt::Formatter<W>) -> fmt::Result {
+        for word in self.0 {
+            write!(f, " {word}")?;
+        }
+        Ok(())
     }
-    Ok(text)
 }

@@ -1,6 +1,7 @@
 -- The rules of edits leave one outcome.
-use Rattle.std.proofs.Common.{◌≡◌, ℕ, suc, Bool, true, false, cond, not, eqb, List, [], ◌∷◌, ◌++◌, length, take, drop, Ok, Err, sym, refl, ap, ◌∙◌, subst, ⊎_elim, arith}
+use Rattle.std.proofs.Common.{◌≡◌, ℕ, suc, cond, not, eqb, List, [], ◌∷◌, ◌++◌, length, take, drop, Ok, Err, sym, refl, ap, ◌∙◌, subst, ⊎_elim, arith}
 use Rattle.std.proofs.lemmas.Bool.{cases_lt, cases_order}
+use Rattle.std.specs.Cmp.{both_ways}
 use Rattle.netlist.specs.declared.edit.Refusal.{Refusal}
 use Rattle.netlist.specs.declared.edit.Refusal.TheVariants.{NoEditor, NoBatch, BatchOpen, NoSuchSignal, OutOfRange, Driven, NotDriven, NoSuchPin, InUse, NoLevelForMark, NoMark, MarkOpen, AbsentInUse, Looped}
 use Rattle.netlist.specs.Refusals.{number}
@@ -11,28 +12,18 @@ use Rattle.netlist.specs.Laws.{EditsDetermined}
 
 -- ---- places
 
-those-same : (f g : ℕ → Bool) → ((x : ℕ) → f x ≡ g x) → (xs : List ℕ) → those f xs ≡ those g xs
-those-same f g same [] = refl
-those-same f g same (x ∷ xs) = λ i. cond (same x i) (x ∷ those-same f g same xs i) (those-same f g same xs i)
-
-same_bool : (b c : Bool) → (b ≡ true → c ≡ true) → (c ≡ true → b ≡ true) → b ≡ c
-same_bool true c forth back = sym (forth refl)
-same_bool false true forth back = back refl
-same_bool false false forth back = refl
-
 module _ (n : Netlist) (o : Order) (s a : ℕ) where
   moving-same : (o₁ o₂ : Order) (c₁ c₂ : ℕ) (h : Moves n o s a o₁ c₁) (g : Moves n o s a o₂ c₂) → (x : ℕ) → h.moving x ≡ g.moving x
   moving-same o₁ o₂ c₁ c₂ h g x =
-      same_bool (h.moving x) (g.moving x)
+      both_ways (h.moving x) (g.moving x)
       (λ e. let r = h.reached x e in g.all x r.0 r.1) (λ e. let r = g.reached x e in h.all x r.0 r.1)
 
   moves_determined : (o₁ o₂ : Order) (c₁ c₂ : ℕ) → Moves n o s a o₁ c₁ → Moves n o s a o₂ c₂ → (o₁ ≡ o₂) × (c₁ ≡ c₂)
   moves_determined o₁ o₂ c₁ c₂ h g =
       let same = moving-same o₁ o₂ c₁ c₂ h g in
       let xs = segment o (place o s) (place o a) in
-      let move : those h.moving xs ≡ those g.moving xs = those-same h.moving g.moving same xs in
-      let stay : those (λ x. not (h.moving x)) xs ≡ those (λ x. not (g.moving x)) xs =
-      those-same (λ x. not (h.moving x)) (λ x. not (g.moving x)) (λ x. ap not (same x)) xs in (
+      let move : those h.moving xs ≡ those g.moving xs = λ i. those (λ x. same x i) xs in
+      let stay : those (λ x. not (h.moving x)) xs ≡ those (λ x. not (g.moving x)) xs = λ i. those (λ x. not (same x i)) xs in (
         h.filled ∙ (λ i. take (place o s) o ++ (stay i ++ (move i ++ drop (suc (place o a)) o))) ∙ sym g.filled,
         h.counts ∙ ap length move ∙ sym g.counts,
       )

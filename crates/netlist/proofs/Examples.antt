@@ -3,7 +3,7 @@ use Rattle.std.proofs.Common.{◌≡◌, ℕ, zero, suc, ◌<◌, ◌≤◌, Boo
 use Rattle.std.proofs.lemmas.Bool.{or_cases, or_left, or_right, eqb-true, eq-eqb}
 use Rattle.reach.specs.Reach.{Among}
 use Rattle.netlist.specs.declared.edit.Edit.TheVariants.{Input, Move}
-use Rattle.netlist.specs.Netlist.{absent, input, Feeds, Leads, here, onward, Loop}
+use Rattle.netlist.specs.Netlist.{Netlist, absent, input, driver_of, Feeds, Leads, here, onward, Loop}
 use Rattle.netlist.specs.Places.{Order, place, Ordered, Moves}
 use Rattle.netlist.specs.Edits.{Board, Applies, no_batch, no_signal, out_of_range, driven, wrong_kind, no_pin, in_use, looped, empty_board, asked}
 use Rattle.netlist.specs.Laws.{Worked, follower}
@@ -116,44 +116,21 @@ allowed-input k (no_pin h) = h
 allowed-input k (in_use h) = h
 allowed-input k (looped a put xs loop) = order-excludes-loops board₁.netlist before xs ordered₁ loop
 
-allowed_four : (k : ℕ) → Applies 5 1 board₁.netlist (follower 4 0) k → ⊥
-allowed_four k (no_batch e) = never e
-allowed_four k (no_signal (inl h)) = omega arith
-allowed_four k (no_signal (inr (inl h))) = omega arith
-allowed_four k (no_signal (inr (inr h))) = h
-allowed_four k (out_of_range (inl h)) = omega arith
-allowed_four k (out_of_range (inr h)) = omega arith
-allowed_four k (driven h) = h refl
-allowed_four k (wrong_kind h) = h
-allowed_four k (no_pin h) = h
-allowed_four k (in_use h) = h
-allowed_four k (looped a put xs loop) = order-excludes-loops board₂.netlist before xs ordered₂ loop
-
-allowed_two : (k : ℕ) → Applies 5 1 board₂.netlist (follower 2 1) k → ⊥
-allowed_two k (no_batch e) = never e
-allowed_two k (no_signal (inl h)) = omega arith
-allowed_two k (no_signal (inr (inl h))) = omega arith
-allowed_two k (no_signal (inr (inr h))) = h
-allowed_two k (out_of_range (inl h)) = omega arith
-allowed_two k (out_of_range (inr h)) = omega arith
-allowed_two k (driven h) = h refl
-allowed_two k (wrong_kind h) = h
-allowed_two k (no_pin h) = h
-allowed_two k (in_use h) = h
-allowed_two k (looped a put xs loop) = order-excludes-loops board₃.netlist before xs ordered₃ loop
-
-allowed_one : (k : ℕ) → Applies 5 1 board₃.netlist (follower 1 4) k → ⊥
-allowed_one k (no_batch e) = never e
-allowed_one k (no_signal (inl h)) = omega arith
-allowed_one k (no_signal (inr (inl h))) = omega arith
-allowed_one k (no_signal (inr (inr h))) = h
-allowed_one k (out_of_range (inl h)) = omega arith
-allowed_one k (out_of_range (inr h)) = omega arith
-allowed_one k (driven h) = h refl
-allowed_one k (wrong_kind h) = h
-allowed_one k (no_pin h) = h
-allowed_one k (in_use h) = h
-allowed_one k (looped a put xs loop) = order-excludes-loops board₄.netlist after xs ordered₄ loop
+-- a gate of one pin may come where nothing drives, if an order of what it asks for has it behind what feeds it
+allowed_follower :
+    (n : Netlist) (s a : ℕ) (o : Order) → s < 5 → a < 5 → driver_of n s ≡ absent → Ordered (asked n (follower s a)) o
+    → (k : ℕ) → Applies 5 1 n (follower s a) k → ⊥
+allowed_follower n s a o s_in a_in free ordered k (no_batch e) = never e
+allowed_follower n s a o s_in a_in free ordered k (no_signal (inl h)) = omega arith
+allowed_follower n s a o s_in a_in free ordered k (no_signal (inr (inl h))) = omega arith
+allowed_follower n s a o s_in a_in free ordered k (no_signal (inr (inr h))) = h
+allowed_follower n s a o s_in a_in free ordered k (out_of_range (inl h)) = omega arith
+allowed_follower n s a o s_in a_in free ordered k (out_of_range (inr h)) = omega arith
+allowed_follower n s a o s_in a_in free ordered k (driven h) = h free
+allowed_follower n s a o s_in a_in free ordered k (wrong_kind h) = h
+allowed_follower n s a o s_in a_in free ordered k (no_pin h) = h
+allowed_follower n s a o s_in a_in free ordered k (in_use h) = h
+allowed_follower n s a o s_in a_in free ordered k (looped x put xs loop) = order-excludes-loops (asked n (follower s a)) o xs ordered loop
 
 -- ---- refusals
 
@@ -205,9 +182,9 @@ worked =
       third = board₃;
       fourth = board₄;
       input_zero = (allowed-input, refl, (refl, refl));
-      four_on_zero = (allowed_four, refl, (before, 0, 0, ((λ _. (refl, refl)), (λ h. absurd (omega arith))), (refl, refl), refl));
-      two_on_one = (allowed_two, refl, (before, 0, 0, ((λ _. (refl, refl)), (λ h. absurd (omega arith))), (refl, refl), refl));
-      one_on_four = (allowed_one, refl, (after, 2, 0, ((λ h. absurd (omega arith)), (λ _. moves)), (refl, refl), refl));
+      four_on_zero = (allowed_follower board₁.netlist 4 0 before (omega arith) (omega arith) refl ordered₂, refl, (before, 0, 0, ((λ _. (refl, refl)), (λ h. absurd (omega arith))), (refl, refl), refl));
+      two_on_one = (allowed_follower board₂.netlist 2 1 before (omega arith) (omega arith) refl ordered₃, refl, (before, 0, 0, ((λ _. (refl, refl)), (λ h. absurd (omega arith))), (refl, refl), refl));
+      one_on_four = (allowed_follower board₃.netlist 1 4 after (omega arith) (omega arith) refl ordered₄, refl, (after, 2, 0, ((λ h. absurd (omega arith)), (λ _. moves)), (refl, refl), refl));
       order_then = refl;
       four_to_two = (looped 2 (inl refl) (1 ∷ 2 ∷ 4 ∷ []) loop_three, before_loop 2 (omega arith), refl);
       loop_of_three = loop_three;

@@ -1,8 +1,9 @@
 // The edits of a netlist as values, and the refusals of the editor.
 ghost use Rattle.std.specs.Prelude.{◌≡◌};
+ghost use Rattle.netlist.specs.Edits.{signal_of};
 ghost use Rattle.netlist.specs.Refusals.{number as number_of};
 
-#[derive(Clone, Copy, Debug)]
+#[derive(Clone, Copy, PartialEq, Eq, Debug)]
 pub enum Edit {
     Input {
         signal: u32,
@@ -14,6 +15,7 @@ pub enum Edit {
     Gate {
         signal: u32,
         pins: u32,
+        // all four, of which the first `pins` count: rows of pins are copied whole
         nets: [u32; 4],
         table: u32,
     },
@@ -30,6 +32,22 @@ pub enum Edit {
         pin: u32,
         net: u32,
     },
+}
+
+impl Edit {
+    // the signal that it changes
+    pub fn signal(self) -> u32
+        ensures { result ≡ signal_of self }
+    {
+        match self {
+            Edit::Input { signal }
+            | Edit::Output { signal, .. }
+            | Edit::Gate { signal, .. }
+            | Edit::Latch { signal, .. }
+            | Edit::Delete { signal }
+            | Edit::Move { signal, .. } => signal,
+        }
+    }
 }
 
 #[derive(Clone, Copy, PartialEq, Eq, Debug)]

@@ -1,12 +1,11 @@
 -- What a put of a pin expects of the words of a store, and what it leaves.
-use Rattle.std.specs.Prelude.{◌≡◌, ℕ, ◌<◌, ◌≤◌, List, length}
+use Rattle.std.specs.Prelude.{◌≡◌, ℕ, ◌<◌, ◌≤◌, List, length, Ok, Err, Result}
 use Rattle.words.specs.Meaning.{Meaning}
 use Rattle.reach.specs.Listed.{along}
 use Rattle.netlist.specs.Netlist.{Feeds, Loop}
 use Rattle.netlist.specs.Places.{place, Arranges, OrderedBut, Puts}
 use Rattle.board.specs.Board.{netlist_of, order_of, Sound}
-use Rattle.places.specs.declared.put.Put.{Put}
-use Rattle.places.specs.declared.put.Put.TheVariants.{Placed, Looped}
+use Rattle.reach.specs.declared.path.Path.{Path}
 
 -- A pin of gate s is on a; every other gate stands behind what feeds it.
 pub record Ready (m : ℕ) (ws : List ℕ) (s a : ℕ) : Type 0 where
@@ -30,6 +29,6 @@ pub record Places (m : ℕ) (ws : List ℕ) (s a : ℕ) (ws' : List ℕ) (count 
   pub before : place (order_of m ws') a < place (order_of m ws') s
 
 -- the pin has its place; or the netlist has a loop, and nothing is changed
-abbrev pub PutsPin : ℕ → Meaning → ℕ → ℕ → Meaning → Put → Type 0
-PutsPin m before s a after (Placed count) = Places m before.image s a after.image count
-PutsPin m before s a after (Looped path) = (after ≡ before) × Loop (netlist_of m before.image) (along path)
+abbrev pub PutsPin : ℕ → Meaning → ℕ → ℕ → Meaning → Result ℕ Path → Type 0
+PutsPin m before s a after (Ok count) = Places m before.image s a after.image count
+PutsPin m before s a after (Err path) = (after ≡ before) × Loop (netlist_of m before.image) (along path)

@@ -3,11 +3,6 @@ use Rattle.std.specs.Prelude.{◌≡◌, ℕ, suc, ◌+◌, ◌*◌, ◌<◌, �
 use Rattle.netlist.specs.Places.{Order, those, segment}
 use Rattle.board.specs.Layout.{word, needed, seat, holder}
 use Rattle.board.specs.Board.{order_of}
-use Rattle.places.specs.declared.held.Held.{Held}
-
--- the signals held back, as they were met
-abbrev pub held : Held → List ℕ
-held h = take h.count h.signals
 
 -- whether a number is flagged
 abbrev pub flagged : List ℕ → ℕ → Bool

@@ -1,8 +1,8 @@
 // The places of signals: putting a pin of a gate on a signal, so that the gate stands behind it.
 #![tactic(auto)]
 
-mod held;
 mod put;
 mod refill;
+mod span;
 
-pub use put::{Put, put_pin};
+pub use put::put_pin;

@@ -1,13 +1,18 @@
 -- What the trails that are found say of what is reached.
 use Rattle.std.proofs.Common.{◌≡◌, ℕ, ◌+◌, ◌-◌, ◌<◌, ◌≤◌, Bool, true, false, cond, eqb, ltb, List, [], ◌∷◌, reverse, length, get_or, IfSome, Some, None, MatchBool, Option, sym, refl, ap, ◌∙◌, subst, ⊎_elim, arith, MatchOption}
+use Rattle.std.specs.Prelude.{position}
 use Rattle.std.proofs.lemmas.List.{length_push, get_or_push}
 use Rattle.std.proofs.ByRecursion.{All-get_or}
 use Rattle.std.proofs.lemmas.Bool.{cases_Bool, both_ways, eq-eqb, cond-true, lt-ltb, eqb-true}
 use Rattle.reach.specs.Reach.{Reach, Way}
 use Rattle.reach.specs.Order.{is_new, rounds, order, trail_at, shown, More}
 use Rattle.reach.specs.Flags.{marked}
+use Rattle.reach.specs.declared.queue.Found.{Found}
+use Rattle.reach.specs.declared.path.Path.{Path}
+use Rattle.reach.specs.Listed.{trails, along}
+use Rattle.reach.proofs.Listed.{find_place}
 use Rattle.reach.specs.Answer.{Flagged, Searched, Shown, Whole}
-use Rattle.reach.specs.Steps.{Unmet, Met, Newest, Kept, Round}
+use Rattle.reach.specs.Steps.{Unmet, Newest, Kept, Round, Arrived}
 use Rattle.reach.proofs.Finds.{new-push, new_small, reach_small, complete, old_in_more, order_is}
 use Rattle.reach.proofs.Ways.{Leads, rounds_lead, at_leads, at_in_more, at_push, none_at}
 use Rattle.reach.proofs.Flagged.{zeros-marked}
@@ -24,7 +29,7 @@ new_none y ((x ∷ t) ∷ found) e = go (eqb x y) e (new_none y found)
     go false h rest = rest h
 
 module _ (x : ℕ) (found : List (List ℕ)) (newest : Newest x found) where
-  pub newest_long : length found ≡ length newest.before + 1
+  newest_long : length found ≡ length newest.before + 1
   newest_long = ap length newest.is ∙ length_push newest.before (x ∷ newest.trail)
 
   newest_at : trail_at x found ≡ x ∷ newest.trail
@@ -36,10 +41,10 @@ module _ (x : ℕ) (found : List (List ℕ)) (newest : Newest x found) where
   newest_old = ap (is_new x) newest.is ∙ new-push x x newest.trail newest.before ∙ cond-true (eqb x x) _ _ (eq-eqb x x refl)
 
   -- the trail at the last place is the one at the newest number
-  pub newest_last : (len : ℕ) → length found ≡ len → get_or found (len - 1) [] ≡ trail_at x found
-  newest_last len long =
-      ap (λ l. get_or l (len - 1) []) newest.is
-      ∙ get_or_push newest.before (x ∷ newest.trail) [] (len - 1) (omega (arith, newest_long))
+  pub newest_last : get_or found (length found - 1) [] ≡ trail_at x found
+  newest_last =
+      ap (λ l. get_or l (length found - 1) []) newest.is
+      ∙ get_or_push newest.before (x ∷ newest.trail) [] (length found - 1) (omega (arith, newest_long))
       ∙ sym newest_at
 
 module _ (next : ℕ → List ℕ) (start : ℕ) where
@@ -128,29 +133,39 @@ module _ (next : ℕ → List ℕ) (start : ℕ) where
     flag_answers y true h = flags_exact.sound y h.0 h.1
     flag_answers y false h = λ r. let z : ◌≡◌ {A = ℕ} 0 1 = sym (h (reach_small next start r)) ∙ flags_exact.whole y r in absurd (omega arith)
 
+  -- the path to a number, looked up among the trails
+  pub look_up : (y : ℕ) (flags : List ℕ) (found : List Found) (place : Option ℕ) (r : Option Path) → Searched next start flags (trails [] found) →
+      place ≡ position (λ f. eqb f.number y) found →
+      MatchOption place (r ≡ None) (λ k. (path : Path) × (r ≡ Some path) × (along path ≡ reverse (get_or (trails [] found) k []))) →
+      MatchOption r (Reach next start y → ⊥) (λ path. Shown next start y (along path))
+  look_up y flags found place r searched e is = go place (rw e (find_place y found)) is
+    where
+      go : (place : Option ℕ) →
+          MatchOption place (trail_at y (trails [] found) ≡ []) (λ k. (k < length (trails [] found)) × (get_or (trails [] found) k [] ≡ trail_at y (trails [] found))) →
+          MatchOption place (r ≡ None) (λ k. (path : Path) × (r ≡ Some path) × (along path ≡ reverse (get_or (trails [] found) k []))) →
+          MatchOption r (Reach next start y → ⊥) (λ path. Shown next start y (along path))
+      go None none e = rw e (no_trail flags (trails [] found) searched y none)
+      go (Some k) at e = rw e.1 (show_at y k (trails [] found) (along e.0) searched.all at.0 at.1 e.2)
+
   pub never_met : (sought : Option ℕ) (flags : List ℕ) (found : List (List ℕ)) → Searched next start flags found → Unmet sought found →
       IfSome sought (λ x. Reach next start x → ⊥)
   never_met None flags found searched u = tt
   never_met (Some x) flags found searched u = absent flags found searched x u
 
-  pub met_shown : (sought : Option ℕ) (found : List (List ℕ)) (len : ℕ) (way : List ℕ) → length found ≡ len → Met sought found → More found (order next start) →
-      way ≡ reverse (get_or found (len - 1) []) → MatchOption sought ⊥ (λ x. Shown next start x way)
-  met_shown None found len way long m more is = m
-  met_shown (Some x) found len way long m more is = show-newest x found way m more (is ∙ ap reverse (newest_last x found m len long))
+  pub met_shown : (sought : Option ℕ) (found : List (List ℕ)) (way : List ℕ) → Arrived next start sought found →
+      way ≡ reverse (get_or found (length found - 1) []) → MatchOption sought ⊥ (λ x. Shown next start x way)
+  met_shown None found way a is = a.met
+  met_shown (Some x) found way a is = show-newest x found way a.met a.more (is ∙ ap reverse (newest_last x found a.met))
 
   -- Where all that are found have told, the search is whole.
-  pub whole : (sought : Option ℕ) (flags : List ℕ) (found : List (List ℕ)) (n len : ℕ) → Kept sought flags found → Round next start n found → length found ≡ len →
-      len ≤ n → Whole next start sought flags found len
-  whole sought flags found n len kept round long le =
+  pub whole : (sought : Option ℕ) (flags : List ℕ) (found : List (List ℕ)) (n : ℕ) → Kept sought flags found → Round next start n found →
+      length found ≤ n → Whole next start sought flags found (length found)
+  whole sought flags found n kept round le =
       let searched : Searched next start flags found =
       record { stand = kept.stand; all = round.is ∙ order_is next start n round.few (omega (arith, ap length round.is)) } in
       record {
         searched = searched;
         flagged = flags_exact flags found searched;
-        counted = sym long ∙ counted flags found searched;
+        counted = counted flags found searched;
         missed = never_met sought flags found searched kept.unmet;
       }
-
-pub met_some : (sought : Option ℕ) (found : List (List ℕ)) (len : ℕ) → length found ≡ len → Met sought found → 0 < len
-met_some None found len long m = absurd m
-met_some (Some x) found len long m = omega (arith, newest_long x found m)

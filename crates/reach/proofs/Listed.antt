@@ -1,115 +1,149 @@
--- The trails that two lists of numbers hold.
-use Rattle.std.proofs.Common.{◌≡◌, ℕ, zero, suc, ◌+◌, ◌<◌, ◌≤◌, min, eqb, ◌≢◌, List, [], ◌∷◌, ◌++◌, reverse, length, get_or, drop, set, sym, refl, ap, ◌∙◌, ⊎_elim, append_assoc, add-one, arith}
-use mathlib.Core.List.{reverse-cons}
-use Rattle.std.proofs.lemmas.List.{drop_all, get_or_past, get_or_append_left, get_or_push, length_push, get_or-set_same, get_or-set_other}
-use Rattle.std.proofs.lemmas.Bool.{cases_lt, eq-eqb, ne_eqb, cond-true, cond-false}
-use Rattle.reach.specs.Listed.{trails}
+-- The trails of numbers that were found, one after the other.
+use Rattle.std.proofs.Common.{◌≡◌, ℕ, suc, ◌+◌, ◌<◌, ◌≤◌, Bool, true, false, cond, eqb, ltb, List, [], ◌∷◌, ◌++◌, length, get_or, take, drop, Option, Some, None, MatchOption, sym, refl, ap, ◌∙◌, subst, ⊎_elim, append_assoc, zero-add, arith}
+use Rattle.std.specs.Prelude.{not, position}
+use Rattle.std.specs.List.{position_or_len}
+use Rattle.std.proofs.lemmas.List.{get_or_past, get_or_append_left, get_or_push, length_push, length-take, get_or-append-add, take-append-drop, take_more}
+use Rattle.std.proofs.lemmas.List.Sums.{fold_push, fold-append}
+use Rattle.std.proofs.lemmas.Bool.{cases_lt, lt-ltb, le-ltb, ltb-true, ltb-false, cond-true, cond-false}
+use Rattle.reach.specs.declared.queue.Found.{Found}
+use Rattle.reach.specs.Listed.{trails, told_by, with_trail, HeadOf}
 use Rattle.reach.specs.Order.{trail_at, More}
 use Rattle.reach.proofs.Finds.{more_none, more_on}
 use Rattle.reach.proofs.Ways.{at_push, at_none}
 
-module _ (ns ts : List ℕ) where
-  pub length-trails : (n : ℕ) → length (trails ns ts n) ≡ n
-  unfolding trails
-  length-trails zero = refl
-  length-trails (suc n) =
-      length_push (trails ns ts n) (get_or ns n 0 ∷ get_or (trails ns ts n) (get_or ts n 0) []) ∙ add-one _ ∙ ap suc (length-trails n)
-
-  -- a trail does not change as more are listed behind it
-  trails_stay : (n m : ℕ) → n < m → (k : ℕ) → k < n → get_or (trails ns ts m) k [] ≡ get_or (trails ns ts n) k []
-  unfolding trails
-  trails_stay n zero h k lt = absurd (omega arith)
-  trails_stay n (suc m) h k lt =
-      get_or_append_left (trails ns ts m) _ [] k (omega (arith, length-trails m))
-      ∙ ⊎_elim (λ l. trails_stay n m l k lt) (λ g. let e : m ≡ n = omega arith in ap (λ j. get_or (trails ns ts j) k []) e) (cases_lt n m)
-
-  trail_last : (k : ℕ) → get_or (trails ns ts (suc k)) k [] ≡ get_or ns k 0 ∷ get_or (trails ns ts k) (get_or ts k 0) []
-  unfolding trails
-  trail_last k = get_or_push (trails ns ts k) _ [] k (length-trails k)
-
-  trail_is : (n k : ℕ) → k < n → get_or (trails ns ts n) k [] ≡ get_or ns k 0 ∷ get_or (trails ns ts k) (get_or ts k 0) []
-  trail_is n k lt =
-      ⊎_elim
-      (λ l. trails_stay (suc k) n l k (omega arith) ∙ trail_last k)
-      (λ g. let e : n ≡ suc k = omega arith in ap (λ j. get_or (trails ns ts j) k []) e ∙ trail_last k)
-      (cases_lt (suc k) n)
-
-  -- a trail is its number and the trail of the one that told it
-  pub trail_told : (n k : ℕ) → k < n → get_or ts k 0 < k → get_or (trails ns ts n) k [] ≡ get_or ns k 0 ∷ get_or (trails ns ts n) (get_or ts k 0) []
-  trail_told n k lt before = trail_is n k lt ∙ ap (λ t. get_or ns k 0 ∷ t) (sym (trails_stay k n lt (get_or ts k 0) before))
-
-  pub trail_first : (n k : ℕ) → k < n → k ≤ get_or ts k 0 → get_or (trails ns ts n) k [] ≡ get_or ns k 0 ∷ []
-  trail_first n k lt none =
-      trail_is n k lt ∙ ap (λ t. get_or ns k 0 ∷ t) (get_or_past (trails ns ts k) (get_or ts k 0) [] (omega (arith, length-trails k)))
-
-  pub trail_head : (n k : ℕ) → k < n → (t : List ℕ) × (get_or (trails ns ts n) k [] ≡ get_or ns k 0 ∷ t)
-  trail_head n k lt = (_, trail_is n k lt)
-
--- what is written behind the trails changes none of them
-trails-set : (ns ts : List ℕ) (n x p m : ℕ) → m ≤ n → trails (set ns n x) (set ts n p) m ≡ trails ns ts m
+pub trails-none : trails [] [] ≡ []
 unfolding trails
-trails-set ns ts n x p zero le = refl
-trails-set ns ts n x p (suc m) le =
-    let same = trails-set ns ts n x p m (omega arith) in
-    let ne : m ≢ n = omega arith in
-    simp (same, get_or-set_other ns n m x 0 ne, get_or-set_other ts n m p 0 ne)
+trails-none = refl
 
-pub trails-push : (ns ts : List ℕ) (n x p : ℕ) → n < length ns → n < length ts →
-    trails (set ns n x) (set ts n p) (n + 1) ≡ trails ns ts n ++ (x ∷ get_or (trails ns ts n) p []) ∷ []
+pub trails-push : (found : List Found) (new : Found) → trails [] (found ++ new ∷ []) ≡ with_trail (trails [] found) new
 unfolding trails
-trails-push ns ts n x p a b =
-    let same = trails-set ns ts n x p n (omega arith) in
-    rw add-one (simp (same, get_or-set_same ns n x 0 a, get_or-set_same ts n p 0 b))
+trails-push found new = fold_push with_trail [] found new
 
-module _ (ns ts : List ℕ) where
-  pub none-listed : (y : ℕ) → trail_at y (trails ns ts 0) ≡ []
-  unfolding trails trail_at
-  none-listed y = refl
+trails-append : (before : List (List ℕ)) (xs ys : List Found) → trails before (xs ++ ys) ≡ trails (trails before xs) ys
+unfolding trails
+trails-append before xs ys = fold-append with_trail before xs ys
 
-  one_listed : (n : ℕ) → trails ns ts (suc n) ≡ trails ns ts n ++ (get_or ns n 0 ∷ get_or (trails ns ts n) (get_or ts n 0) []) ∷ []
-  unfolding trails
-  one_listed n = refl
+trails_more : (before : List (List ℕ)) (found : List Found) → More before (trails before found)
+unfolding trails
+trails_more before [] = more_none before
+trails_more before (x ∷ xs) = more_on _ _ _ (record { more = _; is = refl }) (trails_more (with_trail before x) xs)
 
-  more_listed : (k n : ℕ) → k ≤ n → More (trails ns ts k) (trails ns ts n)
-  more_listed k zero le = let e : k ≡ 0 = omega arith in rw e (more_none (trails ns ts 0))
-  more_listed k (suc n) le =
-      ⊎_elim
-      (λ l. more_on _ _ _ (more_listed k n (omega arith)) (record { more = _; is = one_listed n }))
-      (λ g. let e : k ≡ suc n = omega arith in rw e (more_none (trails ns ts (suc n))))
-      (cases_lt k (suc n))
+length-trails_from : (before : List (List ℕ)) (found : List Found) → length (trails before found) ≡ length before + length found
+unfolding trails
+length-trails_from before [] = omega arith
+length-trails_from before (x ∷ xs) =
+    omega (arith, length-trails_from (with_trail before x) xs, length_push before (x.number ∷ get_or before x.teller []))
 
-  -- a number that stands at none of the first places, nor at the next
-  pub miss : (y k : ℕ) → trail_at y (trails ns ts k) ≡ [] → (get_or ns k 0 ≡ y → ⊥) → trail_at y (trails ns ts (k + 1)) ≡ []
-  miss y k none ne =
-      ap (λ j. trail_at y (trails ns ts j)) (add-one k) ∙ ap (trail_at y) (one_listed k) ∙ at_push y (get_or ns k 0) _ (trails ns ts k) [] none
-      ∙ cond-false (eqb (get_or ns k 0) y) _ _ (ne_eqb (get_or ns k 0) y ne) ∙ at_none y
+pub length-trails : (found : List Found) → length (trails [] found) ≡ length found
+length-trails found = omega (arith, length-trails_from [] found)
 
-  -- a number that stands first at a place
-  pub hit : (y k n : ℕ) → k < n → trail_at y (trails ns ts k) ≡ [] → get_or ns k 0 ≡ y → get_or (trails ns ts n) k [] ≡ trail_at y (trails ns ts n)
-  hit y k n lt none e =
-      let m = more_listed (suc k) n lt in
-      trail_is ns ts n k lt
-      ∙ sym (ap (trail_at y) (m.is ∙ ap (λ l. l ++ m.more) (one_listed k) ∙ append_assoc (trails ns ts k) _ m.more)
-      ∙ at_push y (get_or ns k 0) _ (trails ns ts k) m.more none
-      ∙ cond-true (eqb (get_or ns k 0) y) _ _ (eq-eqb (get_or ns k 0) y e))
+-- What a place holds: a number, and behind it the trail that its teller had then.
+module _ (found : List Found) where
+  prefix : (n : ℕ) → More (trails [] (take n found)) (trails [] found)
+  prefix n =
+      subst (More (trails [] (take n found))) (sym (trails-append [] (take n found) (drop n found)) ∙ ap (trails []) (take-append-drop n found))
+      (trails_more (trails [] (take n found)) (drop n found))
 
--- a table read from a place on
-pub drop-upto : (xs : List ℕ) (from n : ℕ) → length xs ≡ n → drop (min from n) xs ≡ drop from xs
-drop-upto xs from n long =
-    ⊎_elim
-    (λ lt. let e : min from n ≡ from = omega arith in ap (λ i. drop i xs) e)
-    (λ ge. drop_all (min from n) xs (omega arith) ∙ sym (drop_all from xs (omega arith)))
-    (cases_lt from n)
+  module _ (k : ℕ) (d : Found) (lt : k < length found) where
+    earlier_long : length (trails [] (take k found)) ≡ k
+    earlier_long = omega (arith, length-trails (take k found), length-take k found)
 
--- a step of the walk back: what is made so far stands behind the way to a place
-module _ (ns ts : List ℕ) (n k : ℕ) (made all : List ℕ) (lt : k < n) where
-  pub walk_ends : k ≤ get_or ts k 0 → reverse (get_or (trails ns ts n) k []) ++ made ≡ all → get_or ns k 0 ∷ made ≡ all
-  walk_ends none e = ap (λ t. reverse t ++ made) (sym (trail_first ns ts n k lt none)) ∙ e
+    one_more : trails [] (take (k + 1) found) ≡ with_trail (trails [] (take k found)) (get_or found k d)
+    one_more = ap (trails []) (take_more found k d lt) ∙ trails-push (take k found) (get_or found k d)
 
-  pub walk_goes : get_or ts k 0 < k → reverse (get_or (trails ns ts n) k []) ++ made ≡ all →
-      reverse (get_or (trails ns ts n) (get_or ts k 0) []) ++ get_or ns k 0 ∷ made ≡ all
-  walk_goes before e =
-      sym (ap (λ t. reverse t ++ made) (trail_told ns ts n k lt before)
-      ∙ ap (λ t. t ++ made) (reverse-cons (get_or ns k 0) (get_or (trails ns ts n) (get_or ts k 0) []))
-      ∙ append_assoc (reverse (get_or (trails ns ts n) (get_or ts k 0) [])) (get_or ns k 0 ∷ []) made)
-      ∙ e
+    trail_is : get_or (trails [] found) k [] ≡ (get_or found k d).number ∷ get_or (trails [] (take k found)) (get_or found k d).teller []
+    trail_is =
+        ap (λ l. get_or l k []) (prefix (k + 1)).is
+        ∙ get_or_append_left _ (prefix (k + 1)).more [] k (omega (arith, length-trails (take (k + 1) found), length-take (k + 1) found))
+        ∙ ap (λ l. get_or l k []) one_more
+        ∙ get_or_push (trails [] (take k found)) _ [] k earlier_long
+
+    -- a trail does not change as more are listed behind it
+    same : (t : ℕ) → t < k → get_or (trails [] (take k found)) t [] ≡ get_or (trails [] found) t []
+    same t before =
+        sym (ap (λ l. get_or l t []) (prefix k).is ∙ get_or_append_left (trails [] (take k found)) (prefix k).more [] t (omega (arith, earlier_long)))
+
+    pub head_at : HeadOf (get_or (trails [] found) k []) (get_or found k d).number
+    head_at = record { behind = _; is = trail_is }
+
+    -- a teller counts where it stands at an earlier place
+    pub trail_told : (counted : Option ℕ) → counted ≡ cond (ltb (get_or found k d).teller k) (Some (get_or found k d).teller) None →
+        get_or (trails [] found) k [] ≡ (get_or found k d).number ∷ told_by counted (trails [] found)
+    trail_told counted is = trail_is ∙ ap (λ t. (get_or found k d).number ∷ t) (go (get_or found k d).teller is)
+      where
+        go : (t : ℕ) → counted ≡ cond (ltb t k) (Some t) None → get_or (trails [] (take k found)) t [] ≡ told_by counted (trails [] found)
+        go t e =
+            ⊎_elim
+            (λ before. rw (e, cond-true (ltb t k) (Some t) None (lt-ltb t k before)) (same t before))
+            (λ later. rw (e, cond-false (ltb t k) (Some t) None (le-ltb t k later)) (get_or_past (trails [] (take k found)) t [] (omega (arith, earlier_long))))
+            (cases_lt t k)
+
+-- the first place of a number, behind trails that end elsewhere
+record Spot (y : ℕ) (all : List (List ℕ)) (past place len : ℕ) : Type 0 where
+  inside : place < len → get_or all (past + place) [] ≡ trail_at y all
+  outside : len ≤ place → trail_at y all ≡ []
+
+spot_from : (y : ℕ) (before : List (List ℕ)) (found : List Found) → trail_at y before ≡ [] →
+    Spot y (trails before found) (length before) (position_or_len (λ f. eqb f.number y) found) (length found)
+unfolding trails
+spot_from y before [] none = record { inside = λ lt. absurd (omega arith); outside = λ _. none }
+spot_from y before (x ∷ xs) none = go (eqb x.number y) refl (spot_from y (with_trail before x) xs)
+  where
+    trail : List ℕ
+    trail = x.number ∷ get_or before x.teller []
+
+    all : List (List ℕ)
+    all = trails (with_trail before x) xs
+
+    rest : ℕ
+    rest = position_or_len (λ f. eqb f.number y) xs
+
+    ends : (b : Bool) → eqb x.number y ≡ b → (more : List (List ℕ)) → trail_at y (before ++ trail ∷ more) ≡ cond b trail (trail_at y more)
+    ends b e more = at_push y x.number (get_or before x.teller []) before more none ∙ ap (λ b. cond b trail (trail_at y more)) e
+
+    grown : More (with_trail before x) all
+    grown = trails_more (with_trail before x) xs
+
+    all_is : all ≡ before ++ trail ∷ grown.more
+    all_is = grown.is ∙ append_assoc before (trail ∷ []) grown.more
+
+    go : (b : Bool) → eqb x.number y ≡ b → (trail_at y (with_trail before x) ≡ [] → Spot y all (length (with_trail before x)) rest (length xs)) →
+        Spot y all (length before) (cond (not b) (1 + rest) 0) (suc (length xs))
+    go true e _ =
+        record {
+          inside = λ lt. ap (λ l. get_or l (length before + 0) []) all_is ∙ get_or-append-add before (trail ∷ grown.more) 0 []
+              ∙ sym (ap (trail_at y) all_is ∙ ends true e grown.more);
+          outside = λ le. absurd (omega arith);
+        }
+    go false e spot =
+        let s = spot (ends false e [] ∙ at_none y) in
+        let long = length_push before trail in
+        let at : length (with_trail before x) + rest ≡ length before + (1 + rest) = omega arith in
+        record {
+          inside = λ lt. ap (λ k. get_or all k []) (sym at) ∙ s.inside (omega arith);
+          outside = λ le. s.outside (omega arith);
+        }
+
+pub find_place : (y : ℕ) (found : List Found) →
+    MatchOption (position (λ f. eqb f.number y) found) (trail_at y (trails [] found) ≡ []) (λ k. (k < length (trails [] found)) × (get_or (trails [] found) k [] ≡ trail_at y (trails [] found)))
+find_place y found = go (ltb (position_or_len (λ f. eqb f.number y) found) (length found)) refl
+  where
+    place : ℕ
+    place = position_or_len (λ f. eqb f.number y) found
+
+    spot : Spot y (trails [] found) 0 place (length found)
+    spot = spot_from y [] found (at_none y)
+
+    go : (b : Bool) → ltb place (length found) ≡ b →
+        MatchOption (cond b (Some place) None) (trail_at y (trails [] found) ≡ []) (λ k. (k < length (trails [] found)) × (get_or (trails [] found) k [] ≡ trail_at y (trails [] found)))
+    go true e =
+        let lt = ltb-true place (length found) e in
+        (omega (arith, length-trails found), ap (λ k. get_or (trails [] found) k []) (sym (zero-add place)) ∙ spot.inside lt)
+    go false e = spot.outside (ltb-false place (length found) e)
+
+-- how many places a walk back may still go to
+abbrev pub left : Option ℕ → ℕ
+left None = 0
+left (Some at) = at + 1
+
+pub ruleset listing = (trails-none, trails-push, length-trails, head_at)

@@ -1,12 +1,12 @@
 -- The flags tell what is found, from the clear table on and with each number that is told.
-use Rattle.std.proofs.Common.{◌≡◌, ℕ, ◌+◌, ◌<◌, Bool, true, false, cond, eqb, ◌⊎◌, List, [], ◌∷◌, ◌++◌, length, get_or, set, replicate, IfSome, Some, None, MatchBool, Option, sym, refl, ap, ◌∙◌, subst, inl, inr, ⊎_elim, arith, MatchOption}
+use Rattle.std.proofs.Common.{◌≡◌, ℕ, ◌+◌, ◌<◌, true, false, cond, eqb, List, [], ◌∷◌, ◌++◌, length, get_or, set, replicate, Some, None, Option, sym, refl, ap, ◌∙◌, subst, ⊎_elim, arith}
 use Rattle.std.proofs.lemmas.List.{get_or-set_same, get_or-set_other, length_push, length-set, length-replicate, get_or-replicate, length-append, get_or_append_left}
-use Rattle.std.proofs.lemmas.Bool.{cases_Bool, cases_eq, eq-eqb, ne_eqb, lt-ltb, cond-true, cond-false, true≢false, eqb-true, eqb-false}
+use Rattle.std.proofs.lemmas.Bool.{cases_Bool, cases_eq, eq-eqb, ne_eqb, lt-ltb, cond-true, cond-false, eqb-false}
+use Rattle.std.specs.Option.{option_eq}
+use Rattle.reach.specs.Listed.{HeadOf}
 use Rattle.reach.specs.Order.{is_new, hear, tell, rounds, order, More}
 use Rattle.reach.specs.Steps.{Stand, Met, Unmet, Kept, Round, Telling, Arrived}
 use Rattle.reach.proofs.Finds.{new-push, new_small, hear_more, more_on, order_more, rounds-begin, round_told}
-use Rattle.reach.specs.Listed.{trails}
-use Rattle.reach.proofs.Listed.{length-trails}
 use Rattle.reach.proofs.Flagged.{zeros-set, zeros-clear}
 
 -- a number that is not below the limit, or is marked
@@ -47,6 +47,11 @@ module _ (flags : List ℕ) (found : List (List ℕ)) (stand : Stand flags found
       here_set : get_or (set flags y 1) y 0 ≡ cond (is_new y (found ++ (y ∷ t) ∷ [])) 0 1
       here_set = get_or-set_same flags y 1 0 (omega (arith, stand.long)) ∙ ap (λ b. cond b 0 1) (sym (new-push y y t found ∙ cond-true _ _ _ (eq-eqb y y refl)))
 
+  -- once it is marked and listed, it is heard
+  pub noted : get_or flags y 0 ≡ 0 → (t : List ℕ) (flags' : List ℕ) (found' : List (List ℕ)) → flags' ≡ set flags y 1 → found' ≡ found ++ (y ∷ t) ∷ [] →
+      Stand flags' found' × (found' ≡ hear t (y ∷ []) found)
+  noted z t flags' found' marks lists = (rw (marks, lists) (stand_push z t), lists ∙ hear-new t y found (flag_new z))
+
 new-empty : (y : ℕ) → y < 1024 → is_new y [] ≡ true
 unfolding is_new
 new-empty y lt = lt-ltb y 1024 lt
@@ -76,56 +81,20 @@ pub hear-none : (t : List ℕ) (found : List (List ℕ)) → hear t [] found ≡
 unfolding hear
 hear-none t found = refl
 
--- a number that was known
-unmet_known : (sought : Option ℕ) (t : List ℕ) (y : ℕ) (found : List (List ℕ)) → is_new y found ≡ false → Unmet sought found → Unmet sought (hear t (y ∷ []) found)
-unmet_known sought t y found e u = subst (Unmet sought) (hear_known t y found e) u
-
 -- a number that is another than the one looked for
-unmet_other : (sought : Option ℕ) (t : List ℕ) (y : ℕ) (found : List (List ℕ)) → is_new y found ≡ true → IfSome sought (λ x. eqb x y ≡ false) →
-    Unmet sought found → Unmet sought (hear t (y ∷ []) found)
-unmet_other None t y found e other u = tt
-unmet_other (Some x) t y found e other u =
-    ap (is_new x) (sym (hear-new t y found e)) ∙ new-push x y t found
-    ∙ cond-false (eqb y x) _ _ (ne_eqb y x (λ same. eqb-false x y other (sym same))) ∙ u
-
-met_same : (sought : Option ℕ) (t : List ℕ) (y : ℕ) (found : List (List ℕ)) → is_new y found ≡ true → MatchOption sought (true ≡ false) (λ x. true ≡ eqb x y) →
-    Met sought (hear t (y ∷ []) found)
-met_same None t y found e same = true≢false same
-met_same (Some x) t y found e same =
-    let eq = eqb-true x y (sym same) in
-    record {
-      before = found;
-      trail = t;
-      is = sym (hear-new t y found e) ∙ ap (λ z. found ++ (z ∷ t) ∷ []) (sym eq);
-      new = ap (λ z. is_new z found) eq ∙ e;
-    }
-
-not_sought : (sought : Option ℕ) (y : ℕ) → MatchOption sought (false ≡ false) (λ x. false ≡ eqb x y) → IfSome sought (λ x. eqb x y ≡ false)
-not_sought None y h = tt
-not_sought (Some x) y h = sym h
-
--- what is answered of the number looked for
-abbrev pub Asked : Option ℕ → ℕ → Bool → Type 0
-Asked sought y r = MatchOption sought (r ≡ false) (λ x. r ≡ eqb x y)
-
-pub unmet_hear : (sought : Option ℕ) (t : List ℕ) (y : ℕ) (found : List (List ℕ)) → (is_new y found ≡ false) ⊎ Asked sought y false → Unmet sought found →
-    Unmet sought (hear t (y ∷ []) found)
-unmet_hear sought t y found (inl e) u = unmet_known sought t y found e u
-unmet_hear sought t y found (inr a) u =
-    ⊎_elim (λ e. unmet_other sought t y found e (not_sought sought y a) u) (λ e. unmet_known sought t y found e u) (cases_Bool (is_new y found))
-
-pub met_hear : (sought : Option ℕ) (t : List ℕ) (y : ℕ) (found : List (List ℕ)) → true ≡ is_new y found → Asked sought y true → Met sought (hear t (y ∷ []) found)
-met_hear sought t y found e a = met_same sought t y found (sym e) a
+pub unmet_push : (sought : Option ℕ) (t : List ℕ) (y : ℕ) (found found' : List (List ℕ)) → found' ≡ found ++ (y ∷ t) ∷ [] → false ≡ option_eq eqb sought (Some y) →
+    Unmet sought found → Unmet sought found'
+unmet_push None t y found found' is e u = tt
+unmet_push (Some x) t y found found' is e u =
+    ap (is_new x) is ∙ new-push x y t found ∙ cond-false (eqb y x) _ _ (ne_eqb y x (λ same. eqb-false x y (sym e) (sym same))) ∙ u
 
 -- A number that is found begins to tell.
-pub telling_begins : (next : ℕ → List ℕ) (start place x : ℕ) (t rest : List ℕ) (found : List (List ℕ)) → Round next start place found → place < 1024 →
-    place < length found → get_or found place [] ≡ x ∷ t → rest ≡ next x → Telling next start place rest found
-telling_begins next start place x t rest found round small within head told =
+pub telling_begins : (next : ℕ → List ℕ) (start place x : ℕ) (found : List (List ℕ)) → Round next start place found → place < 1024 →
+    place < length found → HeadOf (get_or found place []) x → Telling next start place (next x) found
+telling_begins next start place x found round small within head =
     record {
       within = within;
-      left =
-          ap (λ ys. hear (get_or found place []) ys found) told ∙ tell_is next x t (get_or found place []) found head
-          ∙ round_told next start place found round.is;
+      left = tell_is next x head.behind (get_or found place []) found head.is ∙ round_told next start place found round.is;
       few = small;
     }
 
@@ -158,49 +127,14 @@ module _ (next : ℕ → List ℕ) (start place : ℕ) (rest : List ℕ) (found 
         more_on _ _ _ (subst (More heard) telling_goes.left (hear_more (get_or heard place []) rest' heard))
         (order_more next start (place + 1) (omega (arith, was.few)))
 
-pub stand_begins : (n : ℕ) (flags : List ℕ) (found : List (List ℕ)) → n ≡ 1024 → flags ≡ replicate n 0 → found ≡ [] → Stand flags found
-stand_begins n flags found long clear none = subst (Stand flags) (sym none) (subst (λ f. Stand f []) (sym clear) (stand_clear n long))
+pub kept_clear : (sought : Option ℕ) (flags : List ℕ) (found : List (List ℕ)) → flags ≡ replicate 1024 0 → found ≡ [] → Kept sought flags found
+kept_clear sought flags found clear none = rw (clear, none) (record { stand = stand_clear 1024 refl; unmet = unmet_clear sought })
 
 -- The start is told by none.
-module _
-    (next : ℕ → List ℕ) (start : ℕ) (sought : Option ℕ) (flags' : List ℕ) (found heard : List (List ℕ)) (none : found ≡ [])
-    (is : heard ≡ hear (get_or found 0 []) (start ∷ []) found) (stand : Stand flags' heard) where
-  start_is : heard ≡ hear [] (start ∷ []) []
-  start_is = is ∙ ap (λ f. hear (get_or f 0 []) (start ∷ []) f) none
+pub begun : (next : ℕ → List ℕ) (start : ℕ) (found heard : List (List ℕ)) → found ≡ [] → heard ≡ hear (get_or found 0 []) (start ∷ []) found → heard ≡ rounds next start 0
+begun next start found heard none is = is ∙ ap (λ f. hear (get_or f 0 []) (start ∷ []) f) none ∙ sym (rounds-begin next start)
 
-  start_round : heard ≡ rounds next start 0
-  start_round = start_is ∙ sym (rounds-begin next start)
-
-  start_goes : (is_new start found ≡ false) ⊎ Asked sought start false → Kept sought flags' heard × Round next start 0 heard
-  start_goes other = (
-    record {
-      stand = stand;
-      unmet =
-          subst (Unmet sought) (sym start_is)
-          (unmet_hear sought [] start [] (⊎_elim (λ e. inl (ap (is_new start) (sym none) ∙ e)) inr other) (unmet_clear sought));
-    },
-    record { is = start_round; few = omega arith },
-  )
-
-  pub start_known : (r : Bool) → r ≡ is_new start found → r ≡ false → MatchBool r (Arrived next start sought heard) (Kept sought flags' heard × Round next start 0 heard)
-  start_known true e f = absurd (true≢false f)
-  start_known false e f = start_goes (inl (sym e))
-
-  pub start-new : true ≡ is_new start found → (r : Bool) → Asked sought start r → MatchBool r (Arrived next start sought heard) (Kept sought flags' heard × Round next start 0 heard)
-  start-new e true a =
-      record {
-        met = subst (Met sought) (sym start_is) (met_hear sought [] start [] (e ∙ ap (is_new start) none) a);
-        more = subst (λ f. More f (order next start)) (sym start_round) (order_more next start 0 (omega arith));
-        few = omega (arith, stand.room);
-      }
-  start-new e false a = start_goes (inr a)
-
--- a place that is listed is below 1,024
-pub place_small : (flags ns ts : List ℕ) (len place : ℕ) → Stand flags (trails ns ts len) → place < len → place < 1024
-place_small flags ns ts len place stand lt = omega (arith, stand.room, length-trails ns ts len)
-
--- what is kept as a number is told
-pub kept-hear : (sought : Option ℕ) (t : List ℕ) (y : ℕ) (flags' : List ℕ) (found heard : List (List ℕ)) → heard ≡ hear t (y ∷ []) found → Stand flags' heard →
-    Unmet sought found → (is_new y found ≡ false) ⊎ Asked sought y false → Kept sought flags' heard
-kept-hear sought t y flags' found heard is stand unmet other =
-    record { stand = stand; unmet = subst (Unmet sought) (sym is) (unmet_hear sought t y found other unmet) }
+-- The number looked for is met while the start is told, or while others are.
+pub arrived : (next : ℕ → List ℕ) (start : ℕ) (sought : Option ℕ) (flags : List ℕ) (found : List (List ℕ)) → Stand flags found → Met sought found →
+    More found (order next start) → Arrived next start sought found
+arrived next start sought flags found stand met more = record { met = met; more = more; few = omega (arith, stand.room) }

@@ -1,7 +1,5 @@
 -- What a search promises, of the relation that `next` tells and a start.
-use Rattle.std.specs.Prelude.{◌≡◌, ℕ, ◌<◌, List, [], replicate, IfSome, Option, MatchOption, ◌≢◌, slice_index}
-use Rattle.reach.specs.declared.search.Outcome.{Outcome}
-use Rattle.reach.specs.declared.search.Outcome.TheVariants.{Found, Exhausted}
+use Rattle.std.specs.Prelude.{◌≡◌, ℕ, ◌<◌, List, [], replicate, IfSome, Option, MatchOption, Result, Ok, Err, ◌≢◌, slice_index}
 use Rattle.reach.specs.declared.path.Path.{Path}
 use Rattle.reach.specs.Listed.{along}
 use Rattle.reach.specs.Reach.{Reach, Way}
@@ -39,9 +37,9 @@ pub record Whole (next : ℕ → List ℕ) (start : ℕ) (sought : Option ℕ) (
   pub missed : IfSome sought (λ x. Reach next start x → ⊥)
 
 -- What a search answers. Where the number looked for is met, a way to it is shown, and the guard is as new.
-abbrev pub Answers : (ℕ → List ℕ) → ℕ → Option ℕ → List ℕ → List (List ℕ) → Outcome → Type 0
-Answers next start sought flags found (Found path) = MatchOption sought ⊥ (λ x. Shown next start x (along path)) × (flags ≡ replicate 1024 0) × (found ≡ [])
-Answers next start sought flags found (Exhausted count) = Whole next start sought flags found count
+abbrev pub Answers : (ℕ → List ℕ) → ℕ → Option ℕ → List ℕ → List (List ℕ) → Result ℕ Path → Type 0
+Answers next start sought flags found (Err path) = MatchOption sought ⊥ (λ x. Shown next start x (along path)) × (flags ≡ replicate 1024 0) × (found ≡ [])
+Answers next start sought flags found (Ok count) = Whole next start sought flags found count
 
 -- Equal relations give equal answers: the same trails in the same order, so the same flags, count and ways.
 abbrev pub Determined : Type 0

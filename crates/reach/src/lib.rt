@@ -1,12 +1,13 @@
 // One search over any relation on numbers, with flags that are always given back clean.
 #![tactic(auto)]
 
-mod fill;
+mod flags;
 mod path;
 mod queue;
 mod relation;
 mod search;
 
+pub use flags::clear;
 pub use path::Path;
 pub use relation::{Neighbour, Relation};
-pub use search::{Outcome, Search, answers_are_determined};
+pub use search::{Search, answers_are_determined};

@@ -1,17 +1,24 @@
 // The numbers that a search has found, in the order in which it found them.
-ghost use Rattle.std.specs.Prelude.{◌≡◌, ℕ, ◌+◌, ◌<◌, ◌≤◌, [], ◌∷◌, ◌++◌, reverse, MatchOption, slice_index, slice_index_or};
-ghost use Rattle.reach.specs.Listed.{listed, along, Walking};
-ghost use Rattle.reach.specs.Order.{trail_at};
+#![tactic(auto, using(crate::proofs::Listed::listing))]
+
+ghost use Rattle.std.specs.Prelude.{◌≡◌, ◌<◌, ◌≤◌, ◌==◌, [], ◌∷◌, length, reverse, position, IfSome, MatchOption, slice_index_or};
+ghost use Rattle.reach.specs.Listed.{listed, along, told_by, with_trail, HeadOf};
 ghost use Rattle.reach.specs.Answer.{PathTo};
 
 use crate::path::Path;
+use arrayvec::ArrayVec;
 
-// At each place below `len` a number, and the place of the one that told it: an earlier one, but for the start.
+// A number, and the place of the one that told it: an earlier place, but for the start.
+// The start names its own place: an `Option` makes the table half as large again, and a search a third slower.
+#[derive(Clone, Copy, Default)]
+pub(crate) struct Found {
+    pub(crate) number: u32,
+    pub(crate) teller: usize,
+}
+
 #[derive(Drop)]
 pub struct Queue {
-    numbers: [u32; 1024],
-    tellers: [u32; 1024],
-    len: u32,
+    found: ArrayVec<Found, 1024>,
 }
 
 impl Queue {
@@ -19,85 +26,74 @@ impl Queue {
         ensures { listed result ≡ [] }
     {
         Queue {
-            numbers: [0; 1024],
-            tellers: [0; 1024],
-            len: 0,
+            found: ArrayVec::new(),
         }
     }
 
     pub(crate) fn clear(&mut self)
         ensures { listed self.new ≡ [] }
     {
-        self.len = 0;
+        self.found.clear();
     }
 
-    pub(crate) fn len(&self) -> u32
-        ensures { result ≡ self.now.len }
+    pub(crate) fn len(&self) -> usize
+        ensures len { result ≡ length (listed self.now) }
+        ensures few { result ≤ 1024 }
     {
-        self.len
+        self.found.len()
     }
 
-    pub(crate) fn number(&self, place: u32) -> u32
-        requires { place < 1024 }
-        ensures { result ≡ slice_index self.now.numbers place }
+    pub(crate) fn number(&self, place: usize) -> Option<u32>
+        ensures { MatchOption result (length (listed self.now) ≤ place) (λ number. (place < length (listed self.now)) × HeadOf (slice_index_or (listed self.now) place []) number) }
     {
-        self.numbers[place as usize]
+        self.found.get(place).map(|found| found.number)
     }
 
-    // One number more, told by the one at the place `teller`.
-    pub(crate) fn push(&mut self, number: u32, teller: u32)
-        requires { self.old.len < 1024 }
-        ensures { listed self.new ≡ listed self.old ++ (number ∷ slice_index_or (listed self.old) teller []) ∷ [] }
+    pub(crate) fn push(&mut self, found: Found)
+        requires { length (listed self.old) < 1024 }
+        ensures { listed self.new ≡ with_trail (listed self.old) found }
     {
-        self.numbers[self.len as usize] = number;
-        self.tellers[self.len as usize] = teller;
-        self.len += 1;
+        self.found.push(found);
     }
 
     // The place of a number that was found.
-    pub(crate) fn place_of(&self, number: u32) -> Option<u32>
-        ensures { MatchOption result (self.now.len ≤ 1024 → trail_at number (listed self.now) ≡ []) (λ k. (k < self.now.len) × (k < 1024) × (slice_index_or (listed self.now) k [] ≡ trail_at number (listed self.now))) }
+    fn place_of(&self, number: u32) -> Option<usize>
+        ensures { result ≡ position (λ found. found.number == number) self.now.found.items }
     {
-        for place in 0..self.len.min(1024) {
-            if self.numbers[place as usize] == number {
-                return Some(place);
-            }
-        }
-        None
+        self.found.iter().position(|found| found.number == number)
     }
 
-    // Puts the number at a place in front of a path, and gives the place of the one that told it, if any did.
-    fn walk_back(&self, at: u32, path: &mut Path) -> Option<u32>
-        requires within { at < self.now.len }
-        requires room { at < path.old.from }
-        requires fits { path.old.from ≤ 1024 }
-        ensures { (place : ℕ) → Walking self.now place at path.old → MatchOption result (along path.new ≡ reverse (slice_index_or (listed self.now) place [])) (λ k. (k < at) × Walking self.now place k path.new) }
+    // The number at a place, and the place of the one that told it, if any did.
+    fn told_at(&self, place: usize) -> (u32, Option<usize>)
+        requires { place < length (listed self.now) }
+        ensures trail { slice_index_or (listed self.now) place [] ≡ result.0 ∷ told_by result.1 (listed self.now) }
+        ensures earlier { IfSome result.1 (λ teller. teller < place) }
+        ensures few { length (listed self.now) ≤ 1024 }
     {
-        path.prepend(self.numbers[at as usize]);
-        let teller = self.tellers[at as usize];
-        if teller < at { Some(teller) } else { None }
+        let Found { number, teller } = self.found[place];
+        (number, (teller < place).then_some(teller))
     }
 
     // The path to the number at a place, walked back from teller to teller.
-    pub(crate) fn path(&self, place: u32) -> Path
-        requires { (place < self.now.len) × (place < 1024) }
+    pub(crate) fn path(&self, place: usize) -> Path
+        requires { place < length (listed self.now) }
         ensures { along result ≡ reverse (slice_index_or (listed self.now) place []) }
     {
-        let mut path = Path::empty();
-        let mut at = place;
-        while let Some(teller) = self.walk_back(at, &mut path) {
-            at = teller;
+        let mut numbers = ArrayVec::new();
+        let mut next = Some(place);
+        while let Some(at) = next {
+            let (number, teller) = self.told_at(at);
+            numbers.push(number);
+            next = teller;
         }
-        path
+        numbers.reverse();
+        Path { numbers }
     }
 
     // The path from the start of a search to a number that it reached.
     pub(crate) fn path_to(&self, number: u32) -> Option<Path>
         ensures { PathTo number (listed self.now) result }
     {
-        match self.place_of(number) {
-            Some(place) => Some(self.path(place)),
-            None => None,
-        }
+        self.place_of(number).map(|place| self.path(place))
     }
 }

@@ -1,20 +1,29 @@
 // The search, and the guard over the flags that it borrows.
-ghost use Rattle.std.specs.Prelude.{◌≡◌, ℕ, ◌<◌, List, [], replicate, MatchBool, ◌≢◌, slice_index};
+ghost use Rattle.std.specs.Prelude.{◌≡◌, ℕ, ◌+◌, ◌<◌, List, [], ◌∷◌, length, replicate, MatchBool, MatchResult, ◌≢◌, slice_index, slice_index_or};
+ghost use Rattle.reach.specs.Order.{hear};
 ghost use Rattle.reach.specs.Listed.{listed};
+ghost use Rattle.reach.specs.Steps.{Stand, Unmet, Met, Kept, Round, Telling, Arrived};
 ghost use Rattle.reach.specs.Reach.{Reach};
-ghost use Rattle.reach.specs.Answer.{Answers, Searched, PathTo, Determined};
+ghost use Rattle.reach.specs.Answer.{Answers, Whole, Searched, PathTo, Determined};
 
-use crate::fill::{LIMIT, Query, clear, fill};
+use crate::flags::{clear, is_marked, mark};
 use crate::path::Path;
-use crate::queue::Queue;
+use crate::queue::{Found, Queue};
 use crate::relation::Relation;
 
-// How a search ended: at the number looked for, with the path to it; or with all that is reached, so many numbers.
+const LIMIT: usize = 1024;
+
+// Where to search from, and the number to look for, if any.
 #[derive(Drop)]
-pub enum Outcome {
-    Found(Path),
-    Exhausted(u32),
+struct Query<'r, R> {
+    relation: &'r R,
+    start: u32,
+    sought: Option<u32>,
 }
+
+// The number looked for was met.
+#[derive(Drop)]
+struct Sought;
 
 // A guard over a table of flags that is lent: when it is let go, on whatever way, every flag is 0.
 pub struct Search<'a> {
@@ -26,7 +35,7 @@ impl Drop for Search<'_> {
     fn drop(self)
         ensures { self.exit.0.now ≡ replicate 1024 0 }
     {
-        *self.flags = [0; 1024];
+        clear(self.flags);
         let Search { flags: _, queue: _ } = self;
     }
 }
@@ -45,23 +54,29 @@ impl<'a> Search<'a> {
         }
     }
 
-    // Searches from a start, and stops early at the number looked for.
-    pub fn run<R: Relation>(&mut self, relation: &R, start: u32, sought: Option<u32>) -> Outcome
+    // Searches from a start: how many numbers are reached. The number looked for stops it, with the path to it as the error.
+    pub fn run<R: Relation>(
+        &mut self,
+        relation: &R,
+        start: u32,
+        sought: Option<u32>,
+    ) -> Result<u32, Path>
         ensures lent { self.new.flags.ghost_name ≡ self.old.flags.ghost_name }
         ensures answers { Answers (R.Relation.follows relation.now) start sought self.new.flags.now (listed self.new.queue) result }
     {
-        if fill(
+        let query = Query {
             relation,
-            Query { start, sought },
-            self.flags,
-            &mut self.queue,
-        ) {
-            let path = self.queue.path(self.queue.len() - 1);
-            clear(self.flags);
-            self.queue.clear();
-            return Outcome::Found(path);
+            start,
+            sought,
+        };
+        match self.fill(&query) {
+            Ok(()) => Ok(self.queue.len() as u32),
+            Err(Sought) => {
+                let path = self.queue.path(self.queue.len() - 1);
+                self.clear();
+                Err(path)
+            }
         }
-        Outcome::Exhausted(self.queue.len())
     }
 
     // Whether a number is flagged.
@@ -78,17 +93,83 @@ impl<'a> Search<'a> {
     {
         self.queue.path_to(number)
     }
-}
 
-fn is_marked(flags: &[u8; 1024], number: u32) -> bool
-    ensures { MatchBool result ((number < 1024) × (slice_index flags.now number ≢ 0)) (number < 1024 → slice_index flags.now number ≡ 0) }
-{
-    number < LIMIT && flags[number as usize] != 0
+    // As if nothing was searched. `lent` stands in each step, since it compares the guard before and after, which no field can.
+    fn clear(&mut self)
+        ensures lent { self.new.flags.ghost_name ≡ self.old.flags.ghost_name }
+        ensures clear { self.new.flags.now ≡ replicate 1024 0 }
+        ensures empty { listed self.new.queue ≡ [] }
+    {
+        clear(self.flags);
+        self.queue.clear();
+    }
+
+    // A number is told by the one at the place `teller`, the start by none: one that is new is flagged and listed.
+    fn note(&mut self, sought: Option<u32>, teller: usize, number: u32) -> Result<(), Sought>
+        requires { Kept sought self.old.flags.now (listed self.old.queue) }
+        ensures lent { self.new.flags.ghost_name ≡ self.old.flags.ghost_name }
+        ensures heard { listed self.new.queue ≡ hear (slice_index_or (listed self.old.queue) teller []) (number ∷ []) (listed self.old.queue) }
+        ensures stand { Stand self.new.flags.now (listed self.new.queue) }
+        ensures sought { MatchResult result (λ _. Unmet sought (listed self.new.queue)) (λ _. Met sought (listed self.new.queue)) }
+    {
+        if !mark(self.flags, number) {
+            return Ok(());
+        }
+        self.queue.push(Found { number, teller });
+        if sought == Some(number) {
+            Err(Sought)
+        } else {
+            Ok(())
+        }
+    }
+
+    // The number at a place tells all that follows it, up to the number looked for.
+    fn hear_all<R: Relation>(
+        &mut self,
+        query: &Query<'_, R>,
+        place: usize,
+        number: u32,
+    ) -> Result<(), Sought>
+        requires kept { Kept query.now.sought self.old.flags.now (listed self.old.queue) }
+        requires telling { let next = R.Relation.follows query.now.relation.now in
+            Telling next query.now.start place (next number) (listed self.old.queue) }
+        ensures lent { self.new.flags.ghost_name ≡ self.old.flags.ghost_name }
+        ensures outcome { let next = R.Relation.follows query.now.relation.now in
+            let found = listed self.new.queue in
+            MatchResult result
+            (λ _. Kept query.now.sought self.new.flags.now found × Round next query.now.start (place + 1) found)
+            (λ _. Arrived next query.now.start query.now.sought found) }
+    {
+        let mut edge = query.relation.first(number);
+        while let Some(neighbour) = query.relation.step(edge) {
+            self.note(query.sought, place, neighbour.number)?;
+            edge = neighbour.next;
+        }
+        Ok(())
+    }
+
+    // Fills the flags and the queue, whatever they held, up to the number looked for.
+    fn fill<R: Relation>(&mut self, query: &Query<'_, R>) -> Result<(), Sought>
+        ensures lent { self.new.flags.ghost_name ≡ self.old.flags.ghost_name }
+        ensures outcome { let next = R.Relation.follows query.now.relation.now in
+            let found = listed self.new.queue in
+            MatchResult result
+            (λ _. Whole next query.now.start query.now.sought self.new.flags.now found (length found))
+            (λ _. Arrived next query.now.start query.now.sought found) }
+    {
+        self.clear();
+        self.note(query.sought, 0, query.start)?;
+        for place in 0..LIMIT {
+            let Some(number) = self.queue.number(place) else {
+                break;
+            };
+            self.hear_all(query, place, number)?;
+        }
+        Ok(())
+    }
 }
 
 // The answer is determined by what the relation tells, the start and the number looked for.
-pub fn answers_are_determined() -> u8
+pub fn answers_are_determined()
     ensures { Determined }
-{
-    0
-}
+{}

@@ -1,5 +1,6 @@
 -- A chain of links that runs upward.
 use Rattle.std.specs.Prelude.{ℕ, zero, suc, min, cond, List, [], ◌∷◌, length, nat_lt, slice_index_or}
+use Rattle.reach_cases.specs.declared.link.Chain.{Chain}
 use Rattle.reach_cases.specs.declared.link.Link.{Link}
 
 -- no link: the edge behind the last
@@ -22,3 +23,7 @@ chain links (suc n) edge =
 -- all that a chain leads to from an edge on
 abbrev pub rest_of : List Link → ℕ → List ℕ
 rest_of links edge = chain links (min (length links) end) edge
+
+-- the first link of a number
+abbrev pub first_of : List Chain → ℕ → ℕ
+first_of chains x = (slice_index_or chains x (record { first = end; last = end })).first

@@ -3,7 +3,7 @@ ghost use Rattle.std.specs.Prelude.{◌≡◌, ◌≤◌, true, false, replicate
 ghost use Rattle.reach.specs.Reach.{Reach, Way};
 ghost use Rattle.reach.specs.Listed.{along};
 
-use reach::{Outcome, Path, Relation, Search};
+use reach::{Path, Relation, Search};
 
 // How many are reached from a start, and whether one of them is `other`.
 #[derive(Clone, Copy)]
@@ -24,11 +24,9 @@ pub fn avoid<R: Relation>(
     ensures answer { elim result [ Ok tally ↦ (Reach (R.Relation.follows relation.now) start sought → ⊥) × MatchBool tally.other (Reach (R.Relation.follows relation.now) start other) (Reach (R.Relation.follows relation.now) start other → ⊥) | Err path ↦ Way (R.Relation.follows relation.now) start sought (along path) ] }
 {
     let mut search = Search::new(flags);
-    match search.run(relation, start, Some(sought)) {
-        Outcome::Found(path) => Err(path),
-        Outcome::Exhausted(count) => Ok(Tally {
-            count,
-            other: search.contains(other),
-        }),
-    }
+    let count = search.run(relation, start, Some(sought))?;
+    Ok(Tally {
+        count,
+        other: search.contains(other),
+    })
 }

@@ -1,27 +1,25 @@
 // A graph kept as chains of links, which the search walks.
-use crate::link::Link;
+use crate::link::{Chain, Link};
 use crate::links::{END, Links};
 use std::alloc::{AllocError, Global};
 
 pub const SIZE: u32 = 1024;
 
-// For each number its first and its last link.
+// For each number its chain. It is kept in links and not in lists, since an edge of a relation is one number.
 #[derive(Drop)]
 pub struct Graph {
-    firsts: [u32; 1024],
-    lasts: [u32; 1024],
+    chains: [Chain; 1024],
     links: Vec<Link>,
-}
-
-fn no_links() -> [u32; 1024] {
-    [END; 1024]
 }
 
 impl Graph {
     pub fn new(heap: Global) -> Self {
+        let none = Chain {
+            first: END,
+            last: END,
+        };
         Graph {
-            firsts: no_links(),
-            lasts: no_links(),
+            chains: [none; 1024],
             links: Vec::new(heap),
         }
     }
@@ -38,20 +36,19 @@ impl Graph {
 
     // Puts a link behind the last of its number.
     fn append(&mut self, from: u32, at: u32) {
-        if from >= SIZE {
+        let Some(chain) = self.chains.get_mut(from as usize) else {
             return;
-        }
-        let last = self.lasts[from as usize];
-        match self.links.get_mut(last as usize) {
+        };
+        match self.links.get_mut(chain.last as usize) {
             Some(link) => link.next = at,
-            None => self.firsts[from as usize] = at,
+            None => chain.first = at,
         }
-        self.lasts[from as usize] = at;
+        chain.last = at;
     }
 
     pub fn relation(&self) -> Links<'_> {
         Links {
-            firsts: &self.firsts,
+            chains: &self.chains,
             links: self.links.as_slice(),
         }
     }

@@ -1,38 +1,35 @@
-// A relation kept as chains of links in borrowed memory: for each number its first link, and for each link the one behind it.
+// A relation kept as chains of links in borrowed memory: for each number its chain, and for each link the one behind it.
 ghost use Rattle.std.specs.Prelude.{◌≡◌, ℕ, ◌<◌, List, [], ◌∷◌, MatchOption, slice_index_or};
-ghost use Rattle.reach_cases.specs.Chain.{rest_of, behind};
+ghost use Rattle.reach_cases.specs.Chain.{rest_of, behind, first_of};
 
-use crate::link::Link;
+use crate::link::{Chain, Link};
 use reach::{Neighbour, Relation};
 
-// No link.
+// No link. An edge is one number, so this is one too.
 pub const END: u32 = u32::MAX;
 
 #[derive(Clone, Copy)]
 pub struct Links<'a> {
-    pub firsts: &'a [u32],
+    pub chains: &'a [Chain],
     pub links: &'a [Link],
 }
 
 impl Relation for Links<'_> {
-    ghost follows = { λ s x. rest_of s.links.now (slice_index_or s.firsts.now x 4294967295) };
+    ghost follows = { λ s x. rest_of s.links.now (first_of s.chains.now x) };
 
     ghost rest = { λ s edge. rest_of s.links.now edge };
 
     fn first(&self, of: u32) -> u32 {
-        if (of as usize) < self.firsts.len() {
-            self.firsts[of as usize]
-        } else {
-            END
-        }
+        self.chains
+            .get(of as usize)
+            .map_or(END, |chain| chain.first)
     }
 
     fn step(&self, edge: u32) -> Option<Neighbour> {
-        let at = edge as usize;
-        if at >= self.links.len() || edge == END {
+        if edge == END {
             return None;
         }
-        let link = self.links[at];
+        let link = self.links.get(edge as usize)?;
         Some(Neighbour {
             number: link.to,
             next: upward(edge, link.next),

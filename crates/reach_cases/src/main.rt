@@ -10,31 +10,11 @@ mod links;
 mod shapes;
 
 use client::{Tally, avoid};
-use compare::compare;
+use compare::Case;
 use graph::Graph;
 use shapes::Shape;
 use std::alloc::Global;
 use std::io;
-
-fn stale_flags() -> [u8; 1024] {
-    [9; 1024]
-}
-
-fn report(
-    rt: &impl Print,
-    shape: Shape,
-    graph: &Graph,
-    start: u32,
-    flags: &mut [u8; 1024],
-) -> io::Result<()> {
-    let name = shape.name();
-    match compare(shape, graph.relation(), start, flags) {
-        Ok(n) => println!(rt;
-            "{name} from {start}: {n} reached; count, flags, paths and early exits agree with the closure"
-        ),
-        Err(why) => rt.println(why.text()),
-    }
-}
 
 fn run(
     rt: &impl Print,
@@ -44,7 +24,12 @@ fn run(
     flags: &mut [u8; 1024],
 ) -> anyhow::Result<()> {
     let graph = shape.graph(heap)?;
-    report(rt, shape, &graph, start, flags)?;
+    match Case::new(shape, graph.relation(), start).compare(flags) {
+        Ok(n) => println!(rt;
+            "{shape} from {start}: {n} reached; count, flags, paths and early exits agree with the closure"
+        )?,
+        Err(why) => println!(rt; "{why}")?,
+    }
     Ok(())
 }
 
@@ -66,13 +51,17 @@ fn ask_both(rt: &impl Print, heap: Global, flags: &mut [u8; 1024]) -> anyhow::Re
 
 fn main(rt: HostRuntime) -> anyhow::Result<()> {
     let heap = rt.alloc();
-    let mut flags = stale_flags();
-    run(&rt, heap, Shape::Chain, 0, &mut flags)?;
-    run(&rt, heap, Shape::Chain, 1000, &mut flags)?;
-    run(&rt, heap, Shape::Chain, 1024, &mut flags)?;
-    run(&rt, heap, Shape::Ring, 17, &mut flags)?;
-    run(&rt, heap, Shape::Grid, 40, &mut flags)?;
-    run(&rt, heap, Shape::Dense, 5, &mut flags)?;
-    run(&rt, heap, Shape::Outside, 0, &mut flags)?;
+    let mut flags = [9; 1024];
+    for (shape, start) in [
+        (Shape::Chain, 0),
+        (Shape::Chain, 1000),
+        (Shape::Chain, 1024),
+        (Shape::Ring, 17),
+        (Shape::Grid, 40),
+        (Shape::Dense, 5),
+        (Shape::Outside, 0),
+    ] {
+        run(&rt, heap, shape, start, &mut flags)?;
+    }
     ask_both(&rt, heap, &mut flags)
 }

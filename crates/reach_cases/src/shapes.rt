@@ -1,6 +1,7 @@
 // The graphs of the cases.
 use crate::graph::{Graph, SIZE};
 use std::alloc::{AllocError, Global};
+use std::fmt;
 
 #[derive(Clone, Copy)]
 pub enum Shape {
@@ -16,17 +17,19 @@ pub enum Shape {
     Outside,
 }
 
-impl Shape {
-    pub fn name(self) -> &'static str {
-        match self {
+impl fmt::Display for Shape {
+    fn fmt<W: fmt::Write>(&self, f: &mut fmt::Formatter<W>) -> fmt::Result {
+        f.write_str(match self {
             Shape::Chain => "chain",
             Shape::Ring => "ring",
             Shape::Grid => "grid",
             Shape::Dense => "dense",
             Shape::Outside => "outside",
-        }
+        })
     }
+}
 
+impl Shape {
     // How many neighbours a number tells.
     pub fn degree(self) -> u32 {
         match self {
@@ -58,12 +61,7 @@ impl Shape {
 
     // Whether a number is followed by another.
     pub fn leads(self, from: u32, to: u32) -> bool {
-        for place in 0..self.degree() {
-            if self.neighbour(from, place) == to {
-                return true;
-            }
-        }
-        false
+        (0..self.degree()).any(|place| self.neighbour(from, place) == to)
     }
 
     pub fn graph(self, heap: Global) -> Result<Graph, AllocError> {

@@ -2,88 +2,106 @@
 #![tactic(auto)]
 
 use anyhow::anyhow;
+use memory::Memory;
 use std::time::Instant;
-use words::{InverseLog, Snapshot, Store};
+use words::{Store, StoreRefusal};
 
 const WRITES: usize = 20;
 
+const SIZES: [usize; 3] = [1000, 24600, 65536];
+
 // One level: opened, 20 words written that are spread over the store, and closed.
-fn level<S: Store>(store: &mut S, back: bool) -> bool {
+fn level<S: Store, F: Fn(&mut S) -> Result<(), StoreRefusal>>(
+    store: &mut S,
+    close: &F,
+) -> Result<(), StoreRefusal>
+    requires { F.IsAlwaysCallable close.now }
+{
     let step = store.size() / WRITES;
-    let mut good = store.open_level().is_ok();
+    store.open_level()?;
     for i in 0..WRITES {
-        good = store.set(i.saturating_mul(step), 7).is_ok() && good;
+        store.set(i.saturating_mul(step), 7)?;
     }
-    let closed = if back {
-        store.drop_level().is_ok()
-    } else {
-        store.keep_level().is_ok()
-    };
-    good && closed
+    close(store)
 }
 
 // Nanoseconds for one level, the mean of `turns`.
-fn mean<S: Store>(rt: &HostRuntime, store: &mut S, back: bool, turns: u32) -> anyhow::Result<u128> {
-    let mut good = true;
+fn mean<S: Store, F: Fn(&mut S) -> Result<(), StoreRefusal>>(
+    rt: &HostRuntime,
+    store: &mut S,
+    turns: u32,
+    close: F,
+) -> anyhow::Result<u128>
+    requires { F.IsAlwaysCallable close }
+{
     let start = Instant::now(rt)?;
     for _ in 0..turns {
-        good = level(store, back) && good;
+        level(store, &close).map_err(|_| anyhow!("a store refused"))?;
     }
     let time = start.elapsed(rt)?.as_nanos();
-    if !good {
-        return Err(anyhow!("a store refused"));
-    }
     Ok(time / u128::from(turns.max(1)))
 }
 
+// What a level takes that is dropped, and one that is kept.
 #[derive(Clone, Copy)]
 struct Times {
-    log: u128,
-    snapshot: u128,
+    drop: u128,
+    keep: u128,
 }
 
-// Both stores of `size` words and three levels, below an open level, so that keeping hands notes down.
-fn measured(rt: &HostRuntime, size: usize, back: bool) -> anyhow::Result<Times> {
-    let heap = rt.alloc();
-    let size = size.min(65536);
-    let mut memory = vec![in heap; 0u32; size * 11]?;
-    let mut log = InverseLog::new(&mut memory, size, 3);
-    let _ = log.open_level();
-    let log_time = mean(rt, &mut log, back, 20000)?;
-    let mut parts = vec![in heap; 0u32; size * 4]?;
-    let mut snapshot = Snapshot::new(&mut parts, size, 3);
-    let _ = snapshot.open_level();
-    let snapshot_time = mean(rt, &mut snapshot, back, 200)?;
+// The levels lie on an open one, so that keeping hands notes down.
+fn timed<S: Store + Drop>(rt: &HostRuntime, mut store: S, turns: u32) -> anyhow::Result<Times> {
+    let _ = store.open_level();
     Ok(Times {
-        log: log_time,
-        snapshot: snapshot_time,
+        drop: mean(rt, &mut store, turns, S::drop_level)?,
+        keep: mean(rt, &mut store, turns, S::keep_level)?,
     })
 }
 
-fn compare(rt: &HostRuntime, name: &str, back: bool) -> anyhow::Result<()> {
-    let small = measured(rt, 1000, back)?;
-    let editor = measured(rt, 24600, back)?;
-    let large = measured(rt, 65536, back)?;
-    show(rt, name, 1000, small, small)?;
-    show(rt, name, 24600, editor, small)?;
-    show(rt, name, 65536, large, small)
+// Both stores of `size` words and three levels.
+#[derive(Clone, Copy)]
+struct Row {
+    size: usize,
+    log: Times,
+    snapshot: Times,
 }
 
-// A store's time, and its ratio to the one of the smallest store, in hundredths.
-fn show(rt: &HostRuntime, name: &str, size: u32, times: Times, least: Times) -> anyhow::Result<()> {
-    let log = times.log;
-    let snapshot = times.snapshot;
-    let log_ratio = log.saturating_mul(100) / least.log.max(1);
-    let snapshot_ratio = snapshot.saturating_mul(100) / least.snapshot.max(1);
-    eprintln!(rt;
-        "{name}, N {size}: inverse log {log} ns ({log_ratio} % of N 1000), snapshot {snapshot} ns ({snapshot_ratio} %)"
-    )?;
+fn measured(rt: &HostRuntime, size: usize) -> anyhow::Result<Row> {
+    let mut memory = Memory::new(rt.alloc(), size, 3, 0)?;
+    Ok(Row {
+        size,
+        log: timed(rt, memory.log(), 20000)?,
+        snapshot: timed(rt, memory.snapshot(), 200)?,
+    })
+}
+
+// One of the times of each size, and its ratio to that of the smallest store, in hundredths.
+fn show<F: Fn(Times) -> u128>(
+    rt: &HostRuntime,
+    name: &str,
+    rows: [Row; 3],
+    time: F,
+) -> anyhow::Result<()>
+    requires { F.IsAlwaysCallable time }
+{
+    let [least, ..] = rows;
+    for row in rows {
+        let size = row.size;
+        let log = time(row.log);
+        let snapshot = time(row.snapshot);
+        let log_ratio = log.saturating_mul(100) / time(least.log).max(1);
+        let snapshot_ratio = snapshot.saturating_mul(100) / time(least.snapshot).max(1);
+        eprintln!(rt;
+            "{name}, N {size}: inverse log {log} ns ({log_ratio} % of N 1000), snapshot {snapshot} ns ({snapshot_ratio} %)"
+        )?;
+    }
     Ok(())
 }
 
 fn run(rt: &HostRuntime) -> anyhow::Result<()> {
-    compare(rt, "open, 20 sets, drop", true)?;
-    compare(rt, "open, 20 sets, keep", false)
+    let rows = SIZES.try_map(|size| measured(rt, size))?;
+    show(rt, "open, 20 sets, drop", rows, |times| times.drop)?;
+    show(rt, "open, 20 sets, keep", rows, |times| times.keep)
 }
 
 fn main(rt: HostRuntime) -> anyhow::Result<()> {

@@ -1,6 +1,9 @@
 // A store as a plain list of images, written apart from the real ones, to compare them with.
 use std::alloc::{AllocError, Global};
 use store_script::Command;
+use words::StoreRefusal;
+
+type Reply = Result<(), StoreRefusal>;
 
 #[derive(Drop)]
 pub struct Plain {
@@ -11,10 +14,9 @@ pub struct Plain {
 
 impl Plain {
     pub fn new(heap: Global, size: usize, limit: usize) -> Result<Plain, AllocError> {
-        let image = vec![in heap; 0u32; size]?;
         Ok(Plain {
             limit,
-            image,
+            image: vec![in heap; 0u32; size]?,
             saved: Vec::new(heap),
         })
     }
@@ -27,45 +29,42 @@ impl Plain {
         self.saved.len()
     }
 
-    // The number of the refusal, or 0.
-    pub fn play(&mut self, command: Command) -> Result<u32, AllocError> {
+    // The reply to a command, if there is memory for what it saves.
+    pub fn play(&mut self, command: Command) -> Result<Reply, AllocError> {
         match command {
             Command::Set { at, word } => Ok(self.set(at as usize, word)),
             Command::Open => self.open_level(),
-            Command::Keep => Ok(self.close_level(false)),
-            Command::Drop => Ok(self.close_level(true)),
-            Command::Show => Ok(0),
+            Command::Keep => Ok(self.keep_level()),
+            Command::Drop => Ok(self.drop_level()),
+            Command::Show => Ok(Ok(())),
         }
     }
 
-    fn set(&mut self, at: usize, word: u32) -> u32 {
-        match self.image.get_mut(at) {
-            Some(place) => {
-                *place = word;
-                0
-            }
-            None => 2,
-        }
+    fn set(&mut self, at: usize, word: u32) -> Reply {
+        *self.image.get_mut(at).ok_or(StoreRefusal::NoSuchWord)? = word;
+        Ok(())
     }
 
-    fn open_level(&mut self) -> Result<u32, AllocError> {
+    fn open_level(&mut self) -> Result<Reply, AllocError> {
         if self.saved.len() >= self.limit {
-            return Ok(3);
+            return Ok(Err(StoreRefusal::NoLevelLeft));
         }
         let copy = self.image.clone()?;
         self.saved.push(copy)?;
-        Ok(0)
+        Ok(Ok(()))
     }
 
-    fn close_level(&mut self, back: bool) -> u32 {
-        match self.saved.pop() {
-            Some(image) => {
-                if back {
-                    self.image = image;
-                }
-                0
-            }
-            None => 4,
-        }
+    fn newest(&mut self) -> Result<Vec<u32>, StoreRefusal> {
+        self.saved.pop().ok_or(StoreRefusal::NoLevelOpen)
+    }
+
+    fn keep_level(&mut self) -> Reply {
+        let _ = self.newest()?;
+        Ok(())
+    }
+
+    fn drop_level(&mut self) -> Reply {
+        self.image = self.newest()?;
+        Ok(())
     }
 }

@@ -35,7 +35,7 @@ pub fn play_both<A: Store, B: Store>(first: &mut A, second: &mut B, command: Com
     Both { first, second }
 }
 
-// The present image, word by word.
+// The present image, word by word: a store lends no slice of it.
 pub fn image_of<S: Store>(heap: Global, store: &S) -> Result<Vec<u32>, AllocError>
     ensures { IfOk result (λ v. v.items ≡ (S.Store.model store.now).image) }
 {

@@ -1,61 +1,47 @@
 -- A set of minterms built from its highest bit down.
-use Rattle.std.proofs.Common.{◌≡◌, ℕ, zero, suc, ◌+◌, ◌-◌, ◌*◌, ◌/◌, ◌^◌, ◌<◌, ◌≤◌, Bool, true, false, cond, Decides, sym, refl, ap, ◌∙◌, subst, arith, pow_mono}
-use native.Mathlib.Nat.{sub-zero, pow-succ'}
-use Rattle.std.proofs.lemmas.Bool.{false≢true}
+use Rattle.std.proofs.Common.{◌≡◌, ℕ, zero, suc, ◌+◌, ◌-◌, ◌*◌, ◌/◌, ◌^◌, ◌<◌, ◌≤◌, Bool, true, false, eqb, Decides, sym, ap, ◌∙◌, subst, arith}
+use Rattle.std.specs.Int.{from_bool}
+use native.Mathlib.Nat.{pow-succ'}
+use Rattle.std.proofs.lemmas.Bool.{eqb-true, eq-eqb, ne_eqb}
 use Rattle.table.specs.Bit.{bit}
-use Rattle.table.specs.Line.{Iff, Holds}
-use Rattle.table.proofs.Bit.{bit_later}
+use Rattle.table.specs.Line.{Holds}
+use Rattle.std.proofs.lemmas.Nat.Bits.{bit_at-suc}
 
--- The set has the minterms from m on, shifted down by m.
-pub record Built (rows m set : ℕ) (P : ℕ → Type 0) : Type 0 where
+-- The set has the answers of a test at the minterms from m on, shifted down by m.
+pub record Built (rows m set : ℕ) (R : ℕ → Bool → Type 0) : Type 0 where
   pub fits : set < 2 ^ (rows - m)
-  pub bitwise : (j : ℕ) → m + j < rows → Iff (bit set j ≡ 1) (P (m + j))
+  pub each : (j : ℕ) → m + j < rows → R (m + j) (eqb (bit set j) 1)
 
--- A bit can still be put below them.
-pub built_room : (pins m set : ℕ) (P : ℕ → Type 0) → pins ≤ 4 → 0 < m → Built (2 ^ pins) m set P → set < 2 ^ 15
-built_room pins m set P few more built =
-    let few' : 2 ^ pins ≤ 2 ^ 4 = pow_mono few in
-    let room : 2 ^ pins - m ≤ 15 = omega arith in
-    let low = pow_mono room in omega (arith, built.fits)
-
-push-lt : (t : Bool) → ◌<◌ (cond t 1 0) 2
+push-lt : (t : Bool) → from_bool t < 2
 push-lt true = omega arith
 push-lt false = omega arith
 
-push_decides : (t : Bool) (P : Type 0) → Decides t P → Iff (◌≡◌ {A = ℕ} (cond t 1 0) 1) P
-push_decides true P decides = ((λ _. decides.0 refl), (λ _. refl))
-push_decides false P decides = ((λ one. absurd (omega arith)), (λ p. absurd (false≢true (decides.1 p))))
+push-bit : (set : ℕ) (t : Bool) → eqb (bit (2 * set + from_bool t) 0) 1 ≡ t
+push-bit set true = eq-eqb _ 1 (omega arith)
+push-bit set false = ne_eqb _ 1 (λ one. omega arith)
 
-module _ (rows m set : ℕ) (P : ℕ → Type 0) (t : Bool) (built : Built rows m set P) (more : 0 < m) (within : m ≤ rows) (decides : Decides t (P (m - 1))) where
-  below : (j : ℕ) → m - 1 + j < rows → Iff (bit (2 * set + cond t 1 0) j ≡ 1) (P (m - 1 + j))
-  below zero h =
-      let first = push_decides t (P (m - 1)) decides in
-      let at : m - 1 + 0 ≡ m - 1 = omega arith in
-      let low = push-lt t in
-      ((λ one. subst P (sym at) (first.0 (omega arith))), (λ p. let e = first.1 (subst P at p) in omega arith))
+module _ (rows m set : ℕ) (R : ℕ → Bool → Type 0) (t : Bool) (built : Built rows m set R) (more : 0 < m) (within : m ≤ rows) (answer : R (m - 1) t) where
+  below : (j : ℕ) → m - 1 + j < rows → R (m - 1 + j) (eqb (bit (2 * set + from_bool t) j) 1)
+  below zero h = rw (push-bit set t) (subst (λ k. R k t) (omega arith) answer)
   below (suc j) h =
-      let later = built.bitwise j (omega arith) in
-      let at : m - 1 + suc j ≡ m + j = omega arith in
-      let half : (2 * set + cond t 1 0) / 2 ≡ set = omega (arith, push-lt t) in
-      let same = bit_later (2 * set + cond t 1 0) j ∙ ap (λ x. bit x j) half in
-      ((λ one. subst P (sym at) (later.0 (sym same ∙ one))), (λ p. same ∙ later.1 (subst P at p)))
+      let at : m + j ≡ m - 1 + suc j = omega arith in
+      let half : (2 * set + from_bool t) / 2 ≡ set = omega (arith, push-lt t) in
+      let same = bit_at-suc (2 * set + from_bool t) j ∙ ap (λ x. bit x j) half in
+      rw same (subst (λ k. R k (eqb (bit set j) 1)) at (built.each j (omega arith)))
 
-  pub built_more : Built rows (m - 1) (2 * set + cond t 1 0) P
+  pub built_more : Built rows (m - 1) (2 * set + from_bool t) R
   built_more = record {
     fits =
         let double : 2 ^ (rows - (m - 1)) ≡ 2 * 2 ^ (rows - m) = ap (λ k. 2 ^ k) (omega arith) ∙ pow-succ' 2 (rows - m) in
         omega (arith, double, built.fits, push-lt t);
-    bitwise = below;
+    each = below;
   }
 
-pub built_all : (pins m set : ℕ) (P : ℕ → Type 0) → m ≤ 0 → Built (2 ^ pins) m set P → Holds pins set P
-built_all pins m set P low built =
-    let done : m ≡ 0 = omega arith in
-    let whole = subst (λ k. Built (2 ^ pins) k set P) done built in
-    record {
-      fits = subst (λ k. set < 2 ^ k) (sub-zero (2 ^ pins)) whole.fits;
-      bitwise = λ j l.
-          let at : 0 + j ≡ j = omega arith in
-          let rule = whole.bitwise j (omega arith) in
-          ((λ one. subst P at (rule.0 one)), (λ p. rule.1 (subst P (sym at) p)));
-    }
+-- The whole set, where the test decides a fact of each minterm.
+pub holds_passing :
+    (pins rows set : ℕ) (P : ℕ → Type 0) → rows ≡ 2 ^ pins → set < 2 ^ rows
+    → ((m : ℕ) → m < rows → Decides (eqb (bit set m) 1) (P m)) → Holds pins set P
+holds_passing pins rows set P is fits each = record {
+  fits = rw (sym is) fits;
+  bitwise = λ m l. let d = each m (omega arith) in ((λ one. d.0 (eq-eqb _ 1 one)), (λ p. eqb-true _ 1 (d.1 p)));
+}

@@ -11,12 +11,7 @@ use Rattle.table.specs.Bit.{bit}
 use Rattle.table.specs.Line.{Line, Holds, Covers, Formed, Alike, Differs, IsCover, Means}
 use Rattle.table.specs.Cover.{written, Ends, Known}
 use Rattle.table.specs.Row.{IsOne, Stands}
-use Rattle.table.proofs.Bit.{bit-lt, bit-or}
-
-pub one_byte : (bytes : List ℕ) (b : ℕ) → length bytes ≡ 1 → get_or bytes 0 0 ≡ b → bytes ≡ b ∷ []
-one_byte [] b long is = absurd (omega arith)
-one_byte (x ∷ []) b long is = ap (λ y. y ∷ []) is
-one_byte (x ∷ y ∷ rest) b long is = absurd (omega (arith, long))
+use Rattle.std.proofs.lemmas.Nat.Bits.{bit_at-lt, bit_at_or}
 
 -- No output is both.
 pub both_outputs : (output : List ℕ) → output ≡ codes "0" → output ≡ codes "1" → ⊥
@@ -73,9 +68,9 @@ known_more pins listed lines output line row known stands ends = record {
   lists = record {
     fits = or_lt (2 ^ pins) listed row.minterms known.lists.fits stands.covers.fits;
     bitwise = λ m l.
-        let either = bit-or listed row.minterms m in
-        let low = bit-lt listed m in
-        let low' = bit-lt row.minterms m in (
+        let either = bit_at_or listed row.minterms m in
+        let low = bit_at-lt listed m in
+        let low' = bit_at-lt row.minterms m in (
           (λ one. ⊎_elim
               (λ e. let p = (known.lists.bitwise m l).0 e in (p.0, has_append_left lines (line ∷ []) p.0 p.1, p.2))
               (λ e. (line, has_push lines line, (stands.covers.bitwise m l).0 (omega arith)))

@@ -1,72 +1,52 @@
 -- The 1-minterms of a table, and the lines written of them.
-use Rattle.std.proofs.Common.{◌≡◌, ℕ, zero, suc, ◌+◌, ◌-◌, ◌^◌, ◌<◌, ◌≤◌, cond, eqb, List, [], ◌∷◌, ◌++◌, map, length, get_or, codes, filter, sym, refl, ap, ◌∙◌, subst, inl, inr, ⊎_elim, append-nil, add-zero, add-suc, add-one, arith}
+use Rattle.std.proofs.Common.{◌≡◌, ℕ, zero, suc, ◌+◌, ◌^◌, ◌<◌, false, cond, eqb, List, [], ◌∷◌, ◌++◌, map, length, get_or, codes, sym, refl, ap, ◌∙◌, subst, inl, inr, ⊎_elim, append-nil, add-one, arith}
 use lib.ListN.{length-map}
-use Rattle.std.specs.List.{range_with_len, ContainsAt, AllByRecursion}
-use Rattle.std.proofs.lemmas.List.FromFn.{length-map-range_with_len, get_or-map-range_with_len}
-use Rattle.std.proofs.lemmas.List.Elements.{filter-append}
+use Rattle.std.specs.List.{ContainsAt, AllByRecursion}
+use Rattle.std.proofs.lemmas.List.FromFn.{filter_of_map_range_with_len_more, length-map-range_with_len, get_or-map-range_with_len}
 use Rattle.std.proofs.ByRecursion.{All-append, All-weaker, All-map, all-has, has_append_left, has_push}
-use Rattle.std.proofs.lemmas.List.{get_or-map}
+use Rattle.std.proofs.lemmas.List.{get_or-map, map-id}
 use Rattle.std.proofs.lemmas.Bool.{eq-eqb, ne_eqb, cases_eq, cond-true, cond-false}
 use Rattle.table.specs.declared.shape.Output.TheVariants.{One}
 use Rattle.table.specs.Bit.{bit}
 use Rattle.table.specs.Line.{Line, Covers, Formed, IsCover}
 use Rattle.table.specs.Laws.{ReadsBack, MeansOne}
 use Rattle.table.specs.Written.{character_at, plane_at, ones_below, line_at, lines_of}
-use Rattle.table.proofs.Bit.{bit-lt, bits-same}
+use Rattle.std.proofs.lemmas.Nat.Bits.{bit_at-lt, same_from_bits_below}
 use Rattle.table.proofs.Lines.{alike_some, both_outputs}
 
-counting_push : (a n : ℕ) → range_with_len a (suc n) ≡ range_with_len a n ++ (a + n) ∷ []
-counting_push a zero = ap (λ x. x ∷ []) (sym (add-zero a))
-counting_push a (suc n) = ap (λ xs. a ∷ xs) (counting_push (a + 1) n ∙ ap (λ x. range_with_len (a + 1) n ++ x ∷ []) (omega arith))
-
 module _ (bits : ℕ) where
-  ones_suc : (n : ℕ) → ones_below bits (suc n) ≡ ones_below bits n ++ cond (eqb (bit bits n) 1) (n ∷ []) []
-  ones_suc n =
-      ap (filter (λ m. eqb (bit bits m) 1)) (counting_push 0 n ∙ ap (λ x. range_with_len 0 n ++ x ∷ []) (omega arith))
-      ∙ filter-append (λ m. eqb (bit bits m) 1) (range_with_len 0 n) (n ∷ [])
+  ones_more : (n : ℕ) → ones_below bits (n + 1) ≡ ones_below bits n ++ cond (eqb (bit bits n) 1) (n ∷ []) []
+  ones_more n = simp map-id at (filter_of_map_range_with_len_more (λ m. eqb (bit bits m) 1) (λ m. m) 0 n n (omega arith))
 
-  ones_yes : (n : ℕ) → bit bits n ≡ 1 → ones_below bits (suc n) ≡ ones_below bits n ++ n ∷ []
-  ones_yes n one = ones_suc n ∙ ap (λ xs. ones_below bits n ++ xs) (cond-true (eqb (bit bits n) 1) (n ∷ []) [] (eq-eqb _ 1 one))
+  -- The 1-minterms below a number, with that number where it is one.
+  pub ones_yes : (n : ℕ) → bit bits n ≡ 1 → ones_below bits (n + 1) ≡ ones_below bits n ++ n ∷ []
+  ones_yes n one =
+      ones_more n ∙ ap (λ xs. ones_below bits n ++ xs) (cond-true (eqb (bit bits n) 1) (n ∷ []) [] (eq-eqb _ 1 one))
 
-  ones_no : (n : ℕ) → bit bits n ≡ 0 → ones_below bits (suc n) ≡ ones_below bits n
+  pub ones_no : (n : ℕ) → eqb (bit bits n) 1 ≡ false → ones_below bits (n + 1) ≡ ones_below bits n
   ones_no n none =
-      ones_suc n
-      ∙ ap (λ xs. ones_below bits n ++ xs) (cond-false (eqb (bit bits n) 1) (n ∷ []) [] (ne_eqb _ 1 (λ one. omega arith)))
+      ones_more n
+      ∙ ap (λ xs. ones_below bits n ++ xs) (cond-false (eqb (bit bits n) 1) (n ∷ []) [] none)
       ∙ append-nil (ones_below bits n)
 
-  -- Where there is no 1-minterm between two numbers, those below the one are those below the other.
-  pub ones_stay : (from d : ℕ) → ((m : ℕ) → from ≤ m → m < from + d → bit bits m ≡ 0) → ones_below bits (from + d) ≡ ones_below bits from
-  ones_stay from zero none = ap (ones_below bits) (add-zero from)
-  ones_stay from (suc d) none =
-      ap (ones_below bits) (add-suc from d)
-      ∙ ones_no (from + d) (none (from + d) (omega arith) (omega arith))
-      ∙ ones_stay from d (λ m l h. none m l (omega arith))
-
-  pub ones_to : (from to : ℕ) → from ≤ to → ((m : ℕ) → from ≤ m → m < to → bit bits m ≡ 0) → ones_below bits to ≡ ones_below bits from
-  ones_to from to h none =
-      ap (ones_below bits) (omega arith) ∙ ones_stay from (to - from) (λ m l k. none m l (omega arith))
-
-  -- The next 1-minterm follows those before it.
-  pub ones-next :
-      (from one : ℕ) → from ≤ one → bit bits one ≡ 1 → ((m : ℕ) → from ≤ m → m < one → bit bits m ≡ 0)
-      → ones_below bits (one + 1) ≡ ones_below bits from ++ one ∷ []
-  ones-next from one h is none = ap (ones_below bits) (add-one one) ∙ ones_yes one is ∙ ap (λ xs. xs ++ one ∷ []) (ones_to from one h none)
+  next : (n : ℕ) → ones_below bits (suc n) ≡ ones_below bits (n + 1)
+  next n = ap (ones_below bits) (sym (add-one n))
 
   ones_are : (n : ℕ) → AllByRecursion (λ m. (m < n) × (bit bits m ≡ 1)) (ones_below bits n)
   ones_are zero = tt
   ones_are (suc n) =
       let before = All-weaker (λ m. (m < n) × (bit bits m ≡ 1)) (λ m. (m < suc n) × (bit bits m ≡ 1)) (λ m p. (omega (arith, p.0), p.1)) (ones_below bits n) (ones_are n) in
       ⊎_elim
-      (λ one. subst (AllByRecursion (λ m. (m < suc n) × (bit bits m ≡ 1))) (sym (ones_yes n one)) (All-append _ (ones_below bits n) (n ∷ []) before ((omega arith, one), tt)))
-      (λ not. subst (AllByRecursion (λ m. (m < suc n) × (bit bits m ≡ 1))) (sym (ones_no n (omega (arith, bit-lt bits n)))) before)
+      (λ one. subst (AllByRecursion (λ m. (m < suc n) × (bit bits m ≡ 1))) (sym (next n ∙ ones_yes n one)) (All-append _ (ones_below bits n) (n ∷ []) before ((omega arith, one), tt)))
+      (λ not. subst (AllByRecursion (λ m. (m < suc n) × (bit bits m ≡ 1))) (sym (next n ∙ ones_no n (ne_eqb _ 1 not))) before)
       (cases_eq (bit bits n) 1)
 
   ones_have : (n m : ℕ) → m < n → bit bits m ≡ 1 → ContainsAt (ones_below bits n) m
   ones_have zero m h one = absurd (omega arith)
   ones_have (suc n) m h one =
       ⊎_elim
-      (λ same. subst (λ xs. ContainsAt xs m) (sym (ones_yes n (subst (λ k. bit bits k ≡ 1) same one))) (subst (λ k. ContainsAt (ones_below bits n ++ n ∷ []) k) (sym same) (has_push (ones_below bits n) n)))
-      (λ other. subst (λ xs. ContainsAt xs m) (sym (ones_suc n)) (has_append_left (ones_below bits n) _ m (ones_have n m (omega arith) one)))
+      (λ same. subst (λ xs. ContainsAt xs m) (sym (next n ∙ ones_yes n (subst (λ k. bit bits k ≡ 1) same one))) (subst (λ k. ContainsAt (ones_below bits n ++ n ∷ []) k) (sym same) (has_push (ones_below bits n) n)))
+      (λ other. subst (λ xs. ContainsAt xs m) (sym (next n ∙ ones_more n)) (has_append_left (ones_below bits n) _ m (ones_have n m (omega arith) one)))
       (cases_eq m n)
 
 has_map : {X Y : Type 0} (f : X → Y) (xs : List X) (x : X) → ContainsAt xs x → ContainsAt (map f xs) (f x)
@@ -85,7 +65,7 @@ module _ (pins m : ℕ) where
   plane-covers i h = inr (plane-at i (omega (arith, plane_long)))
 
   plane_only : (n : ℕ) → m < 2 ^ pins → n < 2 ^ pins → Covers (plane_at pins m) n → m ≡ n
-  plane_only n hm hn covers = bits-same pins m n hm hn (λ i h.
+  plane_only n hm hn covers = same_from_bits_below pins m n hm hn (λ i h.
       let at = plane-at i h in
       ⊎_elim (λ dash. absurd (omega arith)) (λ digit. omega arith) (covers i (omega (arith, plane_long))))
 
@@ -94,7 +74,7 @@ module _ (pins m : ℕ) where
     long = plane_long;
     characters = λ i h.
         let at = plane-at i (omega (arith, plane_long)) in
-        ⊎_elim (λ one. inr (inl (omega arith))) (λ not. inl (omega (arith, bit-lt m i))) (cases_eq (bit m i) 1);
+        ⊎_elim (λ one. inr (inl (omega arith))) (λ not. inl (omega (arith, bit_at-lt m i))) (cases_eq (bit m i) 1);
     ends = inr refl;
   }
 
@@ -133,9 +113,9 @@ reads-back pins bits fits = (
     lines = lines_of pins bits
 
 pub means_one_table : MeansOne
-means_one_table pins lines x y mx my = bits-same (2 ^ pins) x y mx.fits my.fits (λ m l.
-    let low = bit-lt x m in
-    let low' = bit-lt y m in
+means_one_table pins lines x y mx my = same_from_bits_below (2 ^ pins) x y mx.fits my.fits (λ m l.
+    let low = bit_at-lt x m in
+    let low' = bit_at-lt y m in
     ⊎_elim
     (λ one. let e = (my.bitwise m l).1 ((mx.bitwise m l).0 one) in omega arith)
     (λ not. ⊎_elim (λ one. let e = (mx.bitwise m l).1 ((my.bitwise m l).0 one) in omega arith) (λ not'. omega arith) (cases_eq (bit y m) 1))

@@ -1,16 +1,16 @@
 -- A table written line by line into a cover.
-use Rattle.std.proofs.Common.{◌≡◌, ℕ, ◌+◌, ◌-◌, ◌^◌, ◌≤◌, List, [], ◌∷◌, ◌++◌, map, take, Some, None, codes, sym, refl, ap, ◌∙◌, subst, arith}
-use native.Mathlib.Nat.{sub-zero}
+use Rattle.std.proofs.Common.{◌≡◌, ℕ, ◌+◌, ◌^◌, ◌≤◌, false, eqb, List, [], ◌∷◌, ◌++◌, map, take, codes, sym, refl, ap, ◌∙◌, subst}
 use Rattle.std.proofs.lemmas.List.FromFn.{take-map-range_with_len}
 use Rattle.std.proofs.lemmas.List.{map-append}
 use Rattle.table.specs.declared.shape.Cover.{Cover}
 use Rattle.table.specs.declared.shape.Table.{Table}
 use Rattle.table.specs.declared.fault.CoverFault.{CoverFault}
 use Rattle.table.specs.declared.fault.CoverFault.TheVariants.{Malformed, BothWays}
+use Rattle.table.specs.Bit.{bit}
 use Rattle.table.specs.Line.{Line, Differs, Means, Gives}
 use Rattle.table.specs.Cover.{Read, Refuses}
-use Rattle.table.specs.Written.{character_at, plane_at, ones_below, line_at, lines_of, NextOne}
-use Rattle.table.proofs.Ones.{ones-next, ones_to, line-formed, reads-back, means_one_table}
+use Rattle.table.specs.Written.{character_at, plane_at, ones_below, line_at, lines_of}
+use Rattle.table.proofs.Ones.{ones_yes, ones_no, line-formed, reads-back, means_one_table}
 
 -- The lines of the 1-minterms below a number.
 abbrev pub lines_below : Table → ℕ → List Line
@@ -19,16 +19,15 @@ lines_below table from = map (line_at table.pins) (ones_below table.bits from)
 -- The cover has taken those lines.
 pub record Wrote (table : Table) (from : ℕ) (cover : Cover) : Type 0 where
   pub same : cover.pins ≡ table.pins
-  pub within : from ≤ 2 ^ table.pins
   pub read : Read (lines_below table from) cover
 
 -- The first characters of four are the plane of a gate with fewer pins.
 pub cut-plane :
-    (pins n m : ℕ) (bytes : List ℕ) → pins ≤ 4 → n ≡ pins → bytes ≡ plane_at 4 m
-    → ◌≡◌ {A = Line} (record { plane = take (n - 0) bytes; output = codes "1" }) (line_at pins m)
-cut-plane pins n m bytes few is written =
+    (pins m : ℕ) (bytes : List ℕ) → pins ≤ 4 → bytes ≡ plane_at 4 m
+    → ◌≡◌ {A = Line} (record { plane = take pins bytes; output = codes "1" }) (line_at pins m)
+cut-plane pins m bytes few written =
     ap (λ (plane : List ℕ). record { plane = plane; output = codes "1" })
-    (ap (λ k. take k bytes) (sub-zero n ∙ is) ∙ ap (take pins) written ∙ take-map-range_with_len (character_at m) 0 4 pins few)
+    (ap (take pins) written ∙ take-map-range_with_len (character_at m) 0 4 pins few)
 
 never_differs : (pins one : ℕ) (ones : List ℕ) → Differs (map (line_at pins) ones) (line_at pins one) → ⊥
 never_differs pins one [] differs = differs
@@ -40,32 +39,35 @@ never_refused pins one ones BothWays refused = never_differs pins one ones refus
 
 module _ (table : Table) (from : ℕ) (cover : Cover) (wrote : Wrote table from cover) where
   pub wrote-more :
-      (one : ℕ) (line : Line) (after : Cover) → line ≡ line_at table.pins one → after.pins ≡ cover.pins
-      → NextOne table.pins table.bits from (Some one)
-      → Read (lines_below table from ++ line ∷ []) after → Wrote table (one + 1) after
-  wrote-more one line after is same next read = record {
+      (line : Line) (after : Cover) → line ≡ line_at table.pins from → after.pins ≡ cover.pins → bit table.bits from ≡ 1
+      → Read (lines_below table from ++ line ∷ []) after → Wrote table (from + 1) after
+  wrote-more line after is same one read = record {
     same = same ∙ wrote.same;
-    within = omega (arith, next.1);
     read = subst (λ lines. Read lines after)
         (ap (λ x. lines_below table from ++ x ∷ []) is
-        ∙ sym (ap (map (line_at table.pins)) (ones-next table.bits from one next.0 next.2 next.3)
-        ∙ map-append (line_at table.pins) (ones_below table.bits from) (one ∷ [])))
+        ∙ sym (ap (map (line_at table.pins)) (ones_yes table.bits from one)
+        ∙ map-append (line_at table.pins) (ones_below table.bits from) (from ∷ [])))
         read;
   }
 
+  pub wrote_past : eqb (bit table.bits from) 1 ≡ false → Wrote table (from + 1) cover
+  wrote_past none = record {
+    same = wrote.same;
+    read = subst (λ ones. Read (map (line_at table.pins) ones) cover) (sym (ones_no table.bits from none)) wrote.read;
+  }
+
   pub wrote-refused :
-      (one at : ℕ) (line : Line) (fault : CoverFault) → line ≡ line_at table.pins one → at ≡ cover.pins
+      (at : ℕ) (line : Line) (fault : CoverFault) → line ≡ line_at table.pins from → at ≡ cover.pins
       → Refuses at (lines_below table from) line fault → ⊥
-  wrote-refused one at line fault is same refused =
-      never_refused table.pins one (ones_below table.bits from) fault
+  wrote-refused at line fault is same refused =
+      never_refused table.pins from (ones_below table.bits from) fault
       (subst (λ x. Refuses table.pins (lines_below table from) x fault) is
       (subst (λ n. Refuses n (lines_below table from) line fault) (same ∙ wrote.same) refused))
 
   pub wrote-all :
-      (bits : ℕ) → NextOne table.pins table.bits from None
+      (bits : ℕ) → from ≡ 2 ^ table.pins
       → ((lines : List Line) → Read lines cover → Gives cover.pins lines bits) → bits ≡ table.bits
-  wrote-all bits none gives =
-      let all = ap (map (line_at table.pins)) (sym (ones_to table.bits from (2 ^ table.pins) wrote.within none)) in
+  wrote-all bits all gives =
       means_one_table table.pins (lines_of table.pins table.bits) bits table.bits
-      (subst (λ lines. Means table.pins lines bits) all (subst (λ n. Means n (lines_below table from) bits) wrote.same (gives (lines_below table from) wrote.read).1))
+      (subst (λ k. Means table.pins (lines_below table k) bits) all (subst (λ n. Means n (lines_below table from) bits) wrote.same (gives (lines_below table from) wrote.read).1))
       (reads-back table.pins table.bits table.fits).1

@@ -7,7 +7,7 @@ use Rattle.std.proofs.lemmas.Bool.Decides.{Decides-below_and}
 use Rattle.table.specs.Bit.{bit}
 use Rattle.table.specs.Laws.{Examples, text}
 use Rattle.table.specs.Line.{Line, Iff, Agrees, Character, Characters, Covers, OnSet, Means}
-use Rattle.table.proofs.Bit.{bit-lt, bit-none}
+use Rattle.std.proofs.lemmas.Nat.Bits.{bit_at-lt, bit_at-zero}
 use Rattle.table.proofs.Lines.{both_outputs}
 
 -- A test passed at each of the first n numbers.
@@ -75,8 +75,8 @@ not_both = record {
   bitwise = λ m l.
       let off = off_line (text "11" "0") m refl in
       let is = same-below (λ k. bit 7 k + min (bit k 0) (bit k 1)) (λ k. 1) 4 refl m l in
-      let low = bit-lt m 0 in
-      let low' = bit-lt m 1 in (
+      let low = bit_at-lt m 0 in
+      let low' = bit_at-lt m 1 in (
         (λ one. off.0 (λ covers. ⊎_elim
             (λ dash. omega arith)
             (λ digit. ⊎_elim (λ dash. omega arith) (λ digit'. omega arith) (covers 1 (omega arith)))
@@ -91,7 +91,7 @@ no_lines : Means 2 [] 0
 no_lines = record {
   fits = omega arith;
   bitwise = λ m l. (
-    (λ one. absurd (omega (arith, bit-none m))),
+    (λ one. absurd (omega (arith, bit_at-zero m))),
     (λ on. absurd (⊎_elim (λ p. omega (arith, p.1.1)) (λ p. omega (arith, p.0.1.1)) on)),
   );
 }

@@ -1,7 +1,7 @@
 -- The lines of a whole cover, taken one after the other.
-use Rattle.std.proofs.Common.{◌≡◌, ℕ, suc, ◌+◌, ◌<◌, ◌≤◌, List, [], ◌∷◌, ◌++◌, map, length, get_or, take, drop, sym, ap, ◌∙◌, subst}
+use Rattle.std.proofs.Common.{◌≡◌, ℕ, suc, ◌<◌, ◌≤◌, List, ◌∷◌, map, length, get_or, take, drop, ap, ◌∙◌, subst}
 use lib.Seq.{split_at}
-use Rattle.std.proofs.lemmas.List.{map-append, take_more, take_all}
+use Rattle.std.proofs.lemmas.List.{map-append, take_all}
 use Rattle.table.specs.declared.shape.Cover.{Cover}
 use Rattle.table.specs.declared.fault.CoverFault.{CoverFault}
 use Rattle.table.specs.Line.{Line, IsCover, Gives}
@@ -16,15 +16,6 @@ pub record Taken {X : Type 0} (line : X → Line) (xs : List X) (pins i : ℕ) (
   pub read : Read (map line (take i xs)) cover
 
 module _ {X : Type 0} (line : X → Line) (xs : List X) (pins i : ℕ) (cover : Cover) (taken : Taken line xs pins i cover) where
-  pub taken_more :
-      (d : X) (after : Cover) → i < length xs → after.pins ≡ cover.pins
-      → Read (map line (take i xs) ++ line (get_or xs i d) ∷ []) after → Taken line xs pins (i + 1) after
-  taken_more d after h same read = record {
-    few = taken.few;
-    same = same ∙ taken.same;
-    read = subst (λ lines. Read lines after) (sym (ap (map line) (take_more xs i d h) ∙ map-append line (take i xs) (get_or xs i d ∷ []))) read;
-  }
-
   pub taken-stops :
       (d : X) (at : ℕ) (fault : CoverFault) → i < length xs → at ≡ cover.pins
       → Refuses at (map line (take i xs)) (line (get_or xs i d)) fault → Stops pins (map line xs) fault

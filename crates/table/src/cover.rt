@@ -1,23 +1,19 @@
-ghost use Rattle.std.specs.Prelude.{◌≡◌, ◌+◌, ◌*◌, ◌^◌, ◌<◌, ◌≤◌, ◌⊎◌, List, [], length, IfOk, if◌then◌else◌, Some, None, Decides, MatchBool, MatchResult, OnErr, ◌≢◌};
+ghost use Rattle.std.specs.Prelude.{◌≡◌, ℕ, ◌^◌, ◌<◌, ◌≤◌, ◌⊎◌, List, [], length, IfOk, Some, None, Decides, MatchBool, MatchResult, OnErr, ◌≢◌, ◌==◌};
+ghost use Rattle.table.specs.Bit.{bit};
 ghost use Rattle.table.specs.Cover.{Read, Takes};
 ghost use Rattle.table.specs.Row.{Ending, IsOne, Joins, Parses, Stands};
-ghost use Rattle.table.specs.Line.{Characters, Covers, Gives, Holds, Line};
+ghost use Rattle.table.specs.Line.{Characters, Covers, Gives, Line};
+ghost use Rattle.table.specs.Reading.{line_of};
 
 use crate::fault::{CoverFault, TableFault};
-use crate::shape::{Cover, Output, Table};
-use crate::truth::rows;
+use crate::shape::{Cover, CoverLine, Output, Table};
+use crate::truth::{bit_at, rows};
 
 /// Whether each character of a plane is 0, 1 or -.
 fn formed(plane: &[u8]) -> bool
     ensures { Decides result (Characters plane.now) }
 {
-    for b in plane {
-        match *b as char {
-            '0' | '1' | '-' => {}
-            _ => return false,
-        }
-    }
-    true
+    plane.iter().all(|b| matches!(*b as char, '0' | '1' | '-'))
 }
 
 /// Whether a plane of at most four characters covers a minterm.
@@ -25,6 +21,7 @@ fn covers(plane: &[u8], minterm: u32) -> bool
     requires { length plane.now ≤ 4 }
     ensures { Decides result (Covers plane.now minterm) }
 {
+    // a pin is named by the place of its character
     for (i, b) in plane.iter().enumerate() {
         let carried = (minterm >> i) % 2;
         let agrees = match *b as char {
@@ -40,37 +37,34 @@ fn covers(plane: &[u8], minterm: u32) -> bool
     true
 }
 
-/// The bits of a set, with one more below them.
-fn pushed(set: u32, one: bool) -> u32
-    requires { set < 2 ^ 15 }
-    ensures { result ≡ 2 * set + (if one then 1 else 0) }
-{
-    2 * set + if one { 1 } else { 0 }
-}
-
-/// The minterms of a gate with so many pins that the plane covers, a bit for each.
-fn covered(pins: u32, plane: &[u8]) -> u32
-    requires { (pins ≤ 4) × (length plane.now ≡ pins) }
-    ensures { Holds pins result (Covers plane.now) }
+/// The first so many minterms that pass a test, a bit for each.
+fn passing<F: Fn(u32) -> bool>(rows: u32, test: F) -> u32
+    requires few { rows ≤ 16 }
+    requires asked { (m : ℕ) → m < rows → F.pre test m }
+    ensures fits { result < 2 ^ rows }
+    ensures each { (m : ℕ) → m < rows → F.post test m (bit result m == 1) }
 {
     let mut set = 0;
-    for minterm in (0..rows(pins)).rev() {
-        set = pushed(set, covers(plane, minterm));
+    for minterm in (0..rows).rev() {
+        set = 2 * set + u32::from(test(minterm));
     }
     set
 }
 
-/// How a line ends, by the bytes of its output.
-fn ending(output: &[u8]) -> Result<Output, CoverFault>
-    ensures { Ending output.now result }
-{
-    if output.len() != 1 {
-        return Err(CoverFault::Malformed);
-    }
-    match output[0] as char {
-        '0' => Ok(Output::Zero),
-        '1' => Ok(Output::One),
-        _ => Err(CoverFault::Malformed),
+impl TryFrom<&[u8]> for Output {
+    type Error = CoverFault;
+
+    ghost try_from_gives = { λ output r. Ending output.now r };
+
+    fn try_from(output: &[u8]) -> Result<Output, CoverFault> {
+        match output {
+            [b] => match *b as char {
+                '0' => Ok(Output::Zero),
+                '1' => Ok(Output::One),
+                _ => Err(CoverFault::Malformed),
+            },
+            _ => Err(CoverFault::Malformed),
+        }
     }
 }
 
@@ -79,32 +73,6 @@ fn ending(output: &[u8]) -> Result<Output, CoverFault>
 pub(crate) struct Row {
     minterms: u32,
     output: Output,
-}
-
-/// What is kept of a line of a gate with so many pins.
-fn parsed(pins: u32, plane: &[u8], output: &[u8]) -> Result<Row, CoverFault>
-    requires { pins ≤ 4 }
-    ensures { Parses pins (record { plane = plane.entry.now; output = output.now }) result }
-{
-    if plane.len() != pins as usize || !formed(plane) {
-        return Err(CoverFault::Malformed);
-    }
-    let output = ending(output)?;
-    Ok(Row {
-        minterms: covered(pins, plane),
-        output,
-    })
-}
-
-/// The value at a minterm, by how the lines end and whether one of them covers it.
-fn value(output: Option<Output>, covered: bool) -> bool
-    ensures { Decides result (IsOne output covered) }
-{
-    match output {
-        None => false,
-        Some(Output::One) => covered,
-        Some(Output::Zero) => !covered,
-    }
 }
 
 impl Cover {
@@ -133,10 +101,20 @@ impl Cover {
     fn allows(self, output: Output) -> bool
         ensures { MatchBool result ((self.output ≡ None) ⊎ (self.output ≡ Some output)) ((first : Output) × (self.output ≡ Some first) × (first ≢ output)) }
     {
-        match self.output {
-            None => true,
-            Some(first) => first == output,
+        self.output.is_none_or(|first| first == output)
+    }
+
+    /// What is kept of a line.
+    fn row(self, line: CoverLine) -> Result<Row, CoverFault>
+        ensures { Parses self.pins (line_of line.entry) result }
+    {
+        if line.plane.len() != self.pins as usize || !formed(line.plane) {
+            return Err(CoverFault::Malformed);
         }
+        Ok(Row {
+            output: Output::try_from(line.output)?,
+            minterms: passing(rows(self.pins), |minterm| covers(line.plane, minterm)),
+        })
     }
 
     /// One row more, where it ends as those before it.
@@ -148,22 +126,32 @@ impl Cover {
         if !self.allows(row.output) {
             return Err(CoverFault::BothWays);
         }
-        let output = Some(row.output);
-        let listed = self.listed | row.minterms;
         Ok(Cover {
             pins: self.pins,
-            output,
-            listed,
+            output: Some(row.output),
+            listed: self.listed | row.minterms,
         })
     }
 
     /// One line more. A refused line leaves the cover as it was.
-    pub fn line(&mut self, plane: &[u8], output: &[u8]) -> Result<(), CoverFault>
+    pub fn line(&mut self, line: CoverLine) -> Result<(), CoverFault>
         ensures same { (self.new.pins ≡ self.old.pins) × (OnErr result (self.new ≡ self.old)) }
-        ensures takes { (lines : List Line) → Read lines self.old → Takes lines (record { plane = plane.entry.now; output = output.now }) self.new result }
+        ensures takes { (lines : List Line) → Read lines self.old → Takes lines (line_of line.entry) self.new result }
     {
-        *self = self.with(parsed(self.pins, plane, output)?)?;
+        *self = self.with(self.row(line)?)?;
         Ok(())
+    }
+
+    /// The value at a minterm, by how the lines end and whether one of them covers it.
+    fn value(self, minterm: u32) -> bool
+        ensures { Decides result (IsOne self.output (bit self.listed minterm == 1)) }
+    {
+        let covered = bit_at(self.listed, minterm) == 1;
+        match self.output {
+            None => false,
+            Some(Output::One) => covered,
+            Some(Output::Zero) => !covered,
+        }
     }
 
     /// The table that the lines taken mean.
@@ -171,14 +159,9 @@ impl Cover {
         ensures pins { result.pins ≡ self.now.pins }
         ensures gives { (lines : List Line) → Read lines self.now → Gives self.now.pins lines result.bits }
     {
-        let mut bits = 0;
-        for minterm in (0..rows(self.pins)).rev() {
-            let covered = (self.listed >> minterm) % 2 == 1;
-            bits = pushed(bits, value(self.output, covered));
-        }
         Table {
             pins: self.pins,
-            bits,
+            bits: passing(rows(self.pins), |minterm| self.value(minterm)),
         }
     }
 }

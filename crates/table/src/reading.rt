@@ -11,7 +11,7 @@ pub fn read(pins: u32, lines: &[CoverLine]) -> Result<Table, ReadFault>
 {
     let mut cover = Cover::new(pins)?;
     for line in lines {
-        cover.line(line.plane, line.output)?;
+        cover.line(*line)?;
     }
     Ok(cover.table())
 }

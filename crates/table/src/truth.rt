@@ -6,40 +6,30 @@ use crate::fault::TableFault;
 use crate::shape::Table;
 
 /// How many minterms a gate with `pins` pins has.
+#[tactic(auto, using(crate::proofs::Bit::one_shl))]
 pub(crate) fn rows(pins: u32) -> u32
     requires { pins ≤ 4 }
     ensures value { result ≡ 2 ^ pins }
     ensures few { result ≤ 16 }
 {
-    match pins {
-        0 => 1,
-        1 => 2,
-        2 => 4,
-        3 => 8,
-        _ => 16,
-    }
+    1 << pins
 }
 
-/// The first number that is no table of a gate with `pins` pins.
-fn limit(pins: u32) -> u32
-    requires { pins ≤ 4 }
-    ensures { result ≡ 2 ^ (2 ^ pins) }
+/// Bit `i` of a number, which has none past its last: there it is 0.
+#[tactic(auto, using(crate::proofs::Bit::bit_shifted))]
+pub(crate) fn bit_at(number: u32, i: u32) -> u32
+    ensures { result ≡ bit number i }
 {
-    match pins {
-        0 => 2,
-        1 => 4,
-        2 => 16,
-        3 => 256,
-        _ => 65536,
-    }
+    number.unbounded_shr(i) % 2
 }
 
 impl Table {
     /// The table of these two numbers, refused exactly when they are none.
+    #[tactic(auto, using(crate::proofs::Bit::one_shl))]
     pub fn new(pins: u32, bits: u32) -> Result<Table, TableFault>
         ensures { MatchResult result (λ t. IsTable pins bits × (t.pins ≡ pins) × (t.bits ≡ bits)) (λ _. IsTable pins bits → ⊥) }
     {
-        if pins > 4 || bits >= limit(pins) {
+        if pins > 4 || bits >= 1 << rows(pins) {
             return Err(TableFault::Unfit);
         }
         Ok(Table { pins, bits })
@@ -63,6 +53,6 @@ impl Table {
     pub fn value(self, minterm: u32) -> bool
         ensures { result ≡ (bit self.bits minterm == 1) }
     {
-        minterm < 16 && (self.bits >> minterm) % 2 == 1
+        bit_at(self.bits, minterm) == 1
     }
 }

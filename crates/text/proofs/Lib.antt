@@ -1,4 +1,4 @@
-pub mod Fronts
+pub mod Marks
 pub mod Splits
 pub mod Cuts
 pub mod Whole

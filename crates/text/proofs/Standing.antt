@@ -1,11 +1,11 @@
 -- The words that are read stand in the text.
 use Rattle.std.proofs.Common.{◌≡◌, ℕ, ◌+◌, ◌<◌, Bool, true, false, cond, not, ◌||◌, eqb, leb, List, [], ◌∷◌, ◌++◌, length, get_or, take, drop, Ok, sym, refl, ap, ◌∙◌, subst, append_assoc, add-zero, zero-add, arith, length-drop, take-append-drop}
-use Rattle.std.specs.List.{AllByRecursion}
+use Rattle.std.specs.List.{AllByRecursion, list_all, position_or_len}
 use Rattle.std.proofs.ByRecursion.{all_kept_by}
 use Rattle.std.proofs.lemmas.List.{drop-drop, take_at, take_more, get_or-drop}
 use Rattle.std.proofs.lemmas.Bool.{cond_both, and_parts, and_from, not-true, not_from_false}
 use Rattle.text.specs.declared.faults.TextFault.TheVariants.{TooLong}
-use Rattle.text.specs.Rules.{Rules, separates, upto, marked, every, allowed, word_byte}
+use Rattle.text.specs.Rules.{Rules, separates, marked, allowed, word_byte}
 use Rattle.text.specs.Words.{Part, part, onto, parts, is_word_lem, words, fits}
 use Rattle.text.specs.Lines.{shown, first_wrong, verdict, judged, lines, begins, Item, faulty, item, items, rest}
 use Rattle.text.specs.Standing.{newlines, Stands, AllStand, WordsStand}
@@ -21,13 +21,13 @@ Row text at n = n ≡ newlines (take at text) + 1
 
 -- no line ends in bs
 abbrev Free : List ℕ → Type 0
-Free bs = every (λ b. not (eqb b 10)) bs ≡ true
+Free bs = list_all (λ b. not (eqb b 10)) bs ≡ true
 
 abbrev Placed : List ℕ → ℕ → Part → Type 0
 Placed text n p = (p.line ≡ n) × Begins text p.place p.bytes × Row text p.place n
 
 abbrev Clean : Part → Type 0
-Clean p = every word_byte p.bytes ≡ true
+Clean p = list_all word_byte p.bytes ≡ true
 
 -- the first part, if any, begins at `at`
 abbrev First : ℕ → List Part → Type 0
@@ -64,8 +64,8 @@ module _ (text : List ℕ) (at n b : ℕ) (bs : List ℕ) (e : drop at text ≡ 
 free_shown : (bs : List ℕ) → Free bs → Free (shown bs)
 free_shown [] h = refl
 free_shown (b ∷ bs) h =
-    let both = and_parts (not (eqb b 10)) (every (λ c. not (eqb c 10)) bs) h in
-    cond_both (eqb b 35) [] (b ∷ shown bs) Free (λ _. refl) (λ _. and_from (not (eqb b 10)) (every (λ c. not (eqb c 10)) (shown bs)) both.0 (free_shown bs both.1))
+    let both = and_parts (not (eqb b 10)) (list_all (λ c. not (eqb c 10)) bs) h in
+    cond_both (eqb b 35) [] (b ∷ shown bs) Free (λ _. refl) (λ _. and_from (not (eqb b 10)) (list_all (λ c. not (eqb c 10)) (shown bs)) both.0 (free_shown bs both.1))
 
 -- ---- the words of a line
 
@@ -81,7 +81,7 @@ module _ (k : Rules) (text : List ℕ) (n : ℕ) where
   parts-placed : (at : ℕ) (bs tail : List ℕ) → drop at text ≡ bs ++ tail → Row text at n → Free bs → First at (parts k n at bs) × AllByRecursion (Placed text n) (parts k n at bs)
   parts-placed at [] tail e row f = (refl, ((refl, (drop at text, refl), row), tt))
   parts-placed at (b ∷ bs) tail e row f =
-      let both = and_parts (not (eqb b 10)) (every (λ c. not (eqb c 10)) bs) f in
+      let both = and_parts (not (eqb b 10)) (list_all (λ c. not (eqb c 10)) bs) f in
       let after = parts-placed (at + 1) bs tail (next text at b (bs ++ tail) e) (row_plain text at n b (bs ++ tail) e row (not-true (eqb b 10) both.0)) both.1 in
       cond_both (separates k b) (part at n [] ∷ parts k n (at + 1) bs) (onto at b (parts k n (at + 1) bs)) (λ l. First at l × AllByRecursion (Placed text n) l)
       (λ _. (refl, ((refl, (drop at text, refl), row), after.1)))
@@ -93,42 +93,42 @@ module _ (k : Rules) (text : List ℕ) (n : ℕ) where
 
   spell : (at b : ℕ) (ps : List Part) → word_byte b ≡ true → AllByRecursion Clean ps → AllByRecursion Clean (onto at b ps)
   spell at b [] w h = tt
-  spell at b (p ∷ ps) w h = (and_from (word_byte b) (every word_byte p.bytes) w h.0, h.1)
+  spell at b (p ∷ ps) w h = (and_from (word_byte b) (list_all word_byte p.bytes) w h.0, h.1)
 
-  parts_clean : (at : ℕ) (bs : List ℕ) → every (allowed k) bs ≡ true → AllByRecursion Clean (parts k n at bs)
+  parts_clean : (at : ℕ) (bs : List ℕ) → list_all (allowed k) bs ≡ true → AllByRecursion Clean (parts k n at bs)
   parts_clean at [] e = (refl, tt)
   parts_clean at (b ∷ bs) e =
-      let both = and_parts (allowed k b) (every (allowed k) bs) e in
+      let both = and_parts (allowed k b) (list_all (allowed k) bs) e in
       let after = parts_clean (at + 1) bs both.1 in
       cond_both (separates k b) (part at n [] ∷ parts k n (at + 1) bs) (onto at b (parts k n (at + 1) bs)) (AllByRecursion Clean)
       (λ _. (refl, after))
       (λ t. spell at b (parts k n (at + 1) bs) (sym (ap (λ x. x || word_byte b) t) ∙ both.0) after)
 
-  words_clean : (at : ℕ) (bs : List ℕ) → every (allowed k) bs ≡ true → AllByRecursion Clean (words k n at bs)
+  words_clean : (at : ℕ) (bs : List ℕ) → list_all (allowed k) bs ≡ true → AllByRecursion Clean (words k n at bs)
   words_clean at [] e = tt
   words_clean at (b ∷ bs) e = all_kept_by (λ p. is_word_lem k p.bytes) Clean (parts k n at (b ∷ bs)) (parts_clean at (b ∷ bs) e)
 
-  standing : (ws : List Part) → AllByRecursion (Placed text n) ws → AllByRecursion Clean ws → every (λ p. fits p.bytes) ws ≡ true → AllByRecursion (Stands text n) ws
+  standing : (ws : List Part) → AllByRecursion (Placed text n) ws → AllByRecursion Clean ws → list_all (λ p. fits p.bytes) ws ≡ true → AllByRecursion (Stands text n) ws
   standing [] h c e = tt
   standing (w ∷ ws) h c e =
-      let both = and_parts (fits w.bytes) (every (λ p. fits p.bytes) ws) e in
+      let both = and_parts (fits w.bytes) (list_all (λ p. fits p.bytes) ws) e in
       (record { line = h.0.0; counted = h.0.2; there = ap (take (length w.bytes)) h.0.1.1 ∙ take_at w.bytes h.0.1.0 (length w.bytes) refl; right = both.0; clean = c.0 }, standing ws h.1 c.1 both.1)
 
   stand_words : (ws : List Part) (more : List Item) → AllByRecursion (Stands text n) ws → AllStand text more → AllStand text (item n (Ok ws) ++ more)
   stand_words [] more h m = m
   stand_words (w ∷ ws) more h m = (h, m)
 
-  stand_judged : (x y : Bool) (ws : List Part) (more : List Item) → every (λ p. fits p.bytes) ws ≡ y → AllByRecursion (Placed text n) ws → (x ≡ true → AllByRecursion Clean ws) → AllStand text more → AllStand text (item n (verdict (first_wrong x y) ws) ++ more)
+  stand_judged : (x y : Bool) (ws : List Part) (more : List Item) → list_all (λ p. fits p.bytes) ws ≡ y → AllByRecursion (Placed text n) ws → (x ≡ true → AllByRecursion Clean ws) → AllStand text more → AllStand text (item n (verdict (first_wrong x y) ws) ++ more)
   stand_judged false y ws more e h c m = m
   stand_judged true false ws more e h c m = m
   stand_judged true true ws more e h c m = stand_words ws more (standing ws h (c refl) e) m
 
   stand_line : (at : ℕ) (bs tail : List ℕ) (more : List Item) → drop at text ≡ bs ++ tail → Row text at n → Free bs → AllStand text more → AllStand text (item n (judged k n at bs) ++ more)
   stand_line at bs tail more e row f m =
-      let u = upto (marked 35 35) bs in
+      let u = position_or_len (marked 35 35) bs in
       let split : bs ++ tail ≡ shown bs ++ (drop u bs ++ tail) =
       ap (λ l. l ++ tail) (sym (take-append-drop u bs)) ∙ append_assoc (take u bs) (drop u bs) tail ∙ ap (λ l. l ++ (drop u bs ++ tail)) (shown_is bs) in
-      stand_judged (every (allowed k) (shown bs)) (every (λ p. fits p.bytes) (words k n at (shown bs))) (words k n at (shown bs)) more refl (words_placed at (shown bs) (drop u bs ++ tail) (e ∙ split) row (free_shown bs f)) (words_clean at (shown bs)) m
+      stand_judged (list_all (allowed k) (shown bs)) (list_all (λ p. fits p.bytes) (words k n at (shown bs))) (words k n at (shown bs)) more refl (words_placed at (shown bs) (drop u bs ++ tail) (e ∙ split) row (free_shown bs f)) (words_clean at (shown bs)) m
 
 -- each line stands where it is said to begin, under its number
 abbrev Lined : List ℕ → ℕ → ℕ → List (List ℕ) → Type 0
@@ -139,7 +139,7 @@ begun : (text : List ℕ) (n at b : ℕ) (bs : List ℕ) (ls : List (List ℕ)) 
 begun text n at b bs [] e row t h = ((bs, e), row, and_from (not (eqb b 10)) true t refl, tt)
 begun text n at b bs (l ∷ ls) e row t h =
     let on : at + 1 + length l + 1 ≡ at + length (b ∷ l) + 1 = omega arith in
-    ((h.0.0, e ∙ ap (λ t. b ∷ t) (sym (next text at b bs e) ∙ h.0.1)), row, and_from (not (eqb b 10)) (every (λ c. not (eqb c 10)) l) t h.2, subst (λ j. Lined text (n + 1) j ls) on h.3)
+    ((h.0.0, e ∙ ap (λ t. b ∷ t) (sym (next text at b bs e) ∙ h.0.1)), row, and_from (not (eqb b 10)) (list_all (λ c. not (eqb c 10)) l) t h.2, subst (λ j. Lined text (n + 1) j ls) on h.3)
 
 lined : (text : List ℕ) (n at : ℕ) (bs : List ℕ) → drop at text ≡ bs → Row text at n → Lined text n at (lines bs)
 lined text n at [] e row = tt

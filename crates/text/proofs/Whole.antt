@@ -1,5 +1,5 @@
 -- A whole text, line by line.
-use Rattle.std.proofs.Common.{◌≡◌, ℕ, List, [], ◌∷◌, ◌++◌, map, Some, Ok, Err, Option, sym, refl, ap, ◌∙◌, subst, append_assoc, arith}
+use Rattle.std.proofs.Common.{◌≡◌, ℕ, List, [], ◌∷◌, ◌++◌, map, Some, Ok, Err, Option, sym, refl, ap, ◌∙◌, subst, append_assoc}
 use Rattle.std.proofs.lemmas.List.{map_push}
 use Rattle.text.specs.declared.faults.ReadFault.{ReadFault}
 use Rattle.text.specs.declared.faults.ReadFault.TheVariants.{Text, Memory}
@@ -12,8 +12,8 @@ first_fault-after [] is = refl
 first_fault-after (l ∷ ls) is = first_fault-after ls is
 
 fault_first : (is : List Item) (n : ℕ) (f : TextFault) → first is ≡ Some (faulty n f) → first_fault_lem is ≡ Some (faulty n f)
-fault_first [] n f e = let z : ◌≡◌ {A = ℕ} 0 1 = cc in absurd (omega arith)
-fault_first (holds m ws ∷ is) n f e = let z : ◌≡◌ {A = ℕ} 0 1 = cc in absurd (omega arith)
+fault_first [] n f e = cc
+fault_first (holds m ws ∷ is) n f e = cc
 fault_first (faulty m g ∷ is) n f e = e
 
 pub reads_fault : (whole old new : List Item) (ls : List Line) → whole ≡ map told ls ++ old → (e : ReadFault) → Gives old new (Err e) → Reads whole (Err e)

@@ -4,3 +4,4 @@ pub mod Lines
 pub mod Standing
 pub mod Decimal
 pub mod Numbers
+pub mod Printed

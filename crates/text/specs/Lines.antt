@@ -1,7 +1,8 @@
 -- The lines of a text, and what each holds.
 use Rattle.std.specs.Prelude.{◌≡◌, ℕ, ◌+◌, Bool, true, false, cond, List, [], ◌∷◌, ◌++◌, map, length, drop, Some, None, Ok, Err, vec_items, Option, Result, Vec, ◌==◌, nat_le}
+use Rattle.std.specs.List.{list_all}
 use Rattle.std.specs.declared.alloc.Global.{Global}
-use Rattle.text.specs.Rules.{Rules, allowed, every}
+use Rattle.text.specs.Rules.{Rules, allowed}
 use Rattle.text.specs.Words.{Part, spelled, words, fits}
 use Rattle.text.specs.declared.words.Word.{Word}
 use Rattle.text.specs.declared.words.Line.{Line}
@@ -27,7 +28,7 @@ verdict (Some f) ws = Err f
 
 -- the words of line n, which begins at `at`, or what is wrong with it
 abbrev pub judged : Rules → ℕ → ℕ → List ℕ → Result (List Part) TextFault
-judged k n at bs = verdict (first_wrong (every (allowed k) (shown bs)) (every (λ p. fits p.bytes) (words k n at (shown bs)))) (words k n at (shown bs))
+judged k n at bs = verdict (first_wrong (list_all (allowed k) (shown bs)) (list_all (λ p. fits p.bytes) (words k n at (shown bs)))) (words k n at (shown bs))
 
 -- the line is right and holds words
 abbrev pub Wordy : Result (List Part) TextFault → Type 0

@@ -1,5 +1,5 @@
 -- Bytes and what parts them.
-use Rattle.std.specs.Prelude.{ℕ, ◌+◌, Bool, true, false, cond, not, ◌&&◌, ◌||◌, List, [], ◌∷◌, ◌==◌, nat_le}
+use Rattle.std.specs.Prelude.{ℕ, Bool, true, false, not, ◌&&◌, ◌||◌, ◌==◌, nat_le}
 
 -- what a kind of text says of its words: the two bytes that part them, and whether a run of those counts as one
 pub record Rules : Type 0 where
@@ -27,12 +27,3 @@ word_byte b = nat_le 33 b && (nat_le b 126 && (not (b == 44) && (not (b == 61) &
 
 abbrev pub allowed : Rules → ℕ → Bool
 allowed k b = separates k b || word_byte b
-
-abbrev pub every : {X : Type 0} → (X → Bool) → List X → Bool
-every p [] = true
-every p (x ∷ xs) = p x && every p xs
-
--- how many bytes stand before the first that passes p: all where none does
-abbrev pub upto : (ℕ → Bool) → List ℕ → ℕ
-upto p [] = 0
-upto p (b ∷ bs) = cond (p b) 0 (upto p bs + 1)

@@ -1,7 +1,7 @@
 -- The words that are read stand in the text.
 use Rattle.std.specs.Prelude.{◌≡◌, ℕ, ◌+◌, true, cond, List, [], ◌∷◌, length, take, drop, replicate, ◌==◌}
-use Rattle.std.specs.List.{AllByRecursion}
-use Rattle.text.specs.Rules.{Rules, file_rules, every, word_byte}
+use Rattle.std.specs.List.{AllByRecursion, list_all}
+use Rattle.text.specs.Rules.{Rules, file_rules, word_byte}
 use Rattle.text.specs.Words.{Part, part, fits}
 use Rattle.text.specs.Lines.{Item, holds, faulty, contents}
 use Rattle.text.specs.declared.faults.TextFault.TheVariants.{WrongWord}
@@ -17,7 +17,7 @@ pub record Stands (text : List ℕ) (n : ℕ) (p : Part) : Type 0 where
   pub counted : n ≡ newlines (take p.place text) + 1
   pub there : take (length p.bytes) (drop p.place text) ≡ p.bytes
   pub right : fits p.bytes ≡ true
-  pub clean : every word_byte p.bytes ≡ true
+  pub clean : list_all word_byte p.bytes ≡ true
 
 abbrev pub AllStand : List ℕ → List Item → Type 0
 AllStand text [] = Unit {0}

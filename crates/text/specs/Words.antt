@@ -1,5 +1,6 @@
 -- The words of a line.
-use Rattle.std.specs.Prelude.{ℕ, ◌+◌, Bool, cond, not, ◌&&◌, ◌||◌, List, [], ◌∷◌, length, filter, ◌==◌, nat_le}
+use Rattle.std.specs.Prelude.{ℕ, ◌+◌, Bool, cond, not, ◌&&◌, ◌||◌, List, [], ◌∷◌, length, filter, Some, None, Option, ◌==◌, nat_le}
+use denote.Ref.{Bor}
 use Rattle.text.specs.Rules.{Rules, separates}
 use Rattle.text.specs.declared.words.Word.{Word}
 
@@ -35,10 +36,11 @@ abbrev pub words : Rules → ℕ → ℕ → List ℕ → List Part
 words k n at [] = []
 words k n at (b ∷ bs) = filter (λ p. is_word_lem k p.bytes) (parts k n at (b ∷ bs))
 
+-- the words of what is left of a line, which begins at `at`: none where no part is left
+abbrev pub left_words : Rules → ℕ → ℕ → Option (Bor (List ℕ)) → List Part
+left_words k n at None = []
+left_words k n at (Some r) = filter (λ p. is_word_lem k p.bytes) (parts k n at r.now)
+
 -- a word has 1 to 32 bytes
 abbrev pub fits : List ℕ → Bool
 fits bs = not (length bs == 0) && nat_le (length bs) 32
-
--- what stands between two separators is no word, or one of a right length
-abbrev pub serves : Rules → List ℕ → Bool
-serves k bs = not (is_word_lem k bs) || fits bs

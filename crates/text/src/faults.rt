@@ -4,6 +4,8 @@ ghost use Rattle.text.specs.Numbers.{text_fault};
 ghost use Rattle.text.specs.declared.faults.ReadFault.TheVariants.{Text, Memory};
 
 use std::alloc::{AllocError, AllocFailed};
+use std::error::Error;
+use std::fmt;
 
 #[derive(Clone, Copy, PartialEq, Eq, Debug)]
 pub enum TextFault {
@@ -27,6 +29,19 @@ impl TextFault {
     }
 }
 
+impl fmt::Display for TextFault {
+    ghost use Rattle.std.specs.Prelude.{Some};
+    ghost use Rattle.text.specs.Printed.{fault_text};
+
+    ghost output = { λ f. Some (fault_text f) };
+
+    fn fmt<W: fmt::Write>(&self, f: &mut fmt::Formatter<W>) -> fmt::Result {
+        write!(f, "fault {}", self.number())
+    }
+}
+
+impl Error for TextFault {}
+
 // A fault of a text with the number of its line; line 0 where it was found before any line.
 #[derive(Clone, Copy, PartialEq, Eq, Debug)]
 pub struct LineFault {
@@ -34,11 +49,40 @@ pub struct LineFault {
     pub line: usize,
 }
 
+impl fmt::Display for LineFault {
+    ghost use Rattle.std.specs.Prelude.{Some};
+    ghost use Rattle.text.specs.Printed.{line_fault_text};
+
+    ghost output = { λ f. Some (line_fault_text f) };
+
+    fn fmt<W: fmt::Write>(&self, f: &mut fmt::Formatter<W>) -> fmt::Result {
+        write!(f, "{} line {}", self.fault, self.line)
+    }
+}
+
+impl Error for LineFault {}
+
 #[derive(Clone, Copy, PartialEq, Eq, Debug)]
 pub enum ReadFault {
     Text(LineFault),
     Memory,
 }
+
+impl fmt::Display for ReadFault {
+    ghost use Rattle.std.specs.Prelude.{Some};
+    ghost use Rattle.text.specs.Printed.{read_fault_text};
+
+    ghost output = { λ f. Some (read_fault_text f) };
+
+    fn fmt<W: fmt::Write>(&self, f: &mut fmt::Formatter<W>) -> fmt::Result {
+        match self {
+            ReadFault::Text(fault) => write!(f, "{fault}"),
+            ReadFault::Memory => f.write_str("no memory"),
+        }
+    }
+}
+
+impl Error for ReadFault {}
 
 impl From<LineFault> for ReadFault {
     ghost from_gives = { λ f r. r ≡ Text f };
@@ -56,6 +100,7 @@ impl From<AllocError> for ReadFault {
     }
 }
 
+// Apart from that of AllocError: `push` hands back what it could not store, in an error of its own.
 impl<T: Drop> From<AllocFailed<T>> for ReadFault {
     ghost from_gives = { λ _ r. r ≡ Memory };
 

@@ -1,5 +1,5 @@
 // The kinds of text: what parts their words.
-ghost use Rattle.std.specs.Prelude.{◌≡◌, [], ◌∷◌};
+ghost use Rattle.std.specs.Prelude.{◌≡◌, Bool, true, false, List, ℕ, [], ◌∷◌, refl};
 ghost use Rattle.text.specs.Rules.{Rules, file_rules, script_rules};
 
 // A kind of text names its separators, two bytes that may be one, and whether a run of them counts as one.
@@ -8,13 +8,16 @@ pub trait Text {
 
     const RUN_IS_ONE: bool;
 
+    ghost SEPARATORS: { List ℕ };
+
+    ghost RUN_IS_ONE: { Bool };
+
+    // what the two constants say
     ghost rules: { Rules };
 
-    fn marks() -> [u8; 2]
-        ensures { result ≡ rules.first ∷ rules.second ∷ [] };
+    ghost separates: { SEPARATORS ≡ rules.first ∷ rules.second ∷ [] };
 
-    fn joins() -> bool
-        ensures { result ≡ rules.joins };
+    ghost joins: { RUN_IS_ONE ≡ rules.joins };
 }
 
 // A file: blanks and tabs part words, and a run of them counts as one.
@@ -26,15 +29,15 @@ impl Text for File {
 
     const RUN_IS_ONE: bool = true;
 
+    ghost SEPARATORS = { 32 ∷ 9 ∷ [] };
+
+    ghost RUN_IS_ONE = { true };
+
     ghost rules = { file_rules };
 
-    fn marks() -> [u8; 2] {
-        Self::SEPARATORS
-    }
+    ghost separates = { refl };
 
-    fn joins() -> bool {
-        Self::RUN_IS_ONE
-    }
+    ghost joins = { refl };
 }
 
 // A script: commas part words, and each counts.
@@ -46,13 +49,13 @@ impl Text for Script {
 
     const RUN_IS_ONE: bool = false;
 
+    ghost SEPARATORS = { 44 ∷ 44 ∷ [] };
+
+    ghost RUN_IS_ONE = { false };
+
     ghost rules = { script_rules };
 
-    fn marks() -> [u8; 2] {
-        Self::SEPARATORS
-    }
+    ghost separates = { refl };
 
-    fn joins() -> bool {
-        Self::RUN_IS_ONE
-    }
+    ghost joins = { refl };
 }

@@ -1,12 +1,14 @@
 // Texts, line by line and word by word.
 #![tactic(auto)]
 
+mod cut;
 mod faults;
 mod kinds;
 mod laws;
 mod line;
 mod numbers;
 mod reader;
+mod spot;
 mod words;
 
 pub use faults::{LineFault, ReadFault, TextFault};

@@ -1,8 +1,11 @@
 // Decimal numbers.
 ghost use Rattle.std.specs.Prelude.{◌≡◌, ◌≤◌, true, length, if◌then◌else◌, Ok, Err};
-ghost use Rattle.text.specs.Rules.{every};
+ghost use Rattle.std.specs.List.{list_all};
 ghost use Rattle.text.specs.Decimal.{is_digit_lem, is_numeral_lem, value};
 ghost use Rattle.text.specs.Numbers.{number_fault};
+
+use std::error::Error;
+use std::fmt;
 
 // The most digits that a number may have.
 const MOST_DIGITS: usize = 5;
@@ -23,21 +26,23 @@ impl NumberFault {
     }
 }
 
-fn is_digit(b: u8) -> bool
-    ensures { result ≡ is_digit_lem b }
-{
-    b'0' <= b && b <= b'9'
+impl fmt::Display for NumberFault {
+    ghost use Rattle.std.specs.Prelude.{Some};
+    ghost use Rattle.text.specs.Printed.{number_fault_text};
+
+    ghost output = { λ f. Some (number_fault_text f) };
+
+    fn fmt<W: fmt::Write>(&self, f: &mut fmt::Formatter<W>) -> fmt::Result {
+        write!(f, "fault {}", self.number())
+    }
 }
 
+impl Error for NumberFault {}
+
 fn all_digits(bytes: &[u8]) -> bool
-    ensures { result ≡ every is_digit_lem bytes.now }
+    ensures { result ≡ list_all is_digit_lem bytes.now }
 {
-    for b in bytes {
-        if !is_digit(*b) {
-            return false;
-        }
-    }
-    true
+    bytes.iter().all(|b| b.is_ascii_digit())
 }
 
 fn is_numeral(bytes: &[u8]) -> bool
@@ -46,8 +51,9 @@ fn is_numeral(bytes: &[u8]) -> bool
     !bytes.is_empty() && bytes.len() <= MOST_DIGITS && all_digits(bytes)
 }
 
+// A loop, since a fold's closure would have to bear any sum: that ten times it fits is known of the digits so far alone.
 fn value_of(digits: &[u8]) -> u32
-    requires digits { every is_digit_lem digits.now ≡ true }
+    requires digits { list_all is_digit_lem digits.now ≡ true }
     requires few { length digits.now ≤ 5 }
     ensures { result ≡ value digits.now }
 {

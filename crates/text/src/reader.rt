@@ -3,9 +3,11 @@ ghost use Rattle.std.specs.Prelude.{◌≡◌, ◌+◌, ◌<◌, ◌≤◌, leng
 ghost use Rattle.text.specs.Lines.{rest, left, contents, Gives, Reads};
 ghost use Rattle.text.specs.declared.faults.TextFault.TheVariants.{TooLong};
 
+use crate::cut::length_before;
 use crate::faults::{LineFault, ReadFault, TextFault};
 use crate::kinds::Text;
-use crate::line::{length_before, words_of};
+use crate::line::words_of;
+use crate::spot::{RawLine, Spot};
 use crate::words::Line;
 use std::alloc::Global;
 use std::marker::PhantomData;
@@ -15,16 +17,15 @@ pub const DEFAULT_LIMIT: usize = 1048576;
 
 const NEWLINE: u8 = b'\n';
 
-// A text that is being read: the next line begins at `place` and has the number `line`.
+// A text that is being read: the next line begins at `at`.
 #[derive(Drop)]
 pub struct Reader<'a, T> {
     text: &'a [u8],
     limit: usize,
-    place: usize,
-    line: usize,
+    at: Spot,
     kind: PhantomData<T>,
-    ghost within: { place ≤ length text.now },
-    ghost counted: { line ≤ place + 1 },
+    ghost within: { at.place ≤ length text.now },
+    ghost counted: { at.line ≤ at.place + 1 },
 }
 
 impl<'a, T: Text> Reader<'a, T> {
@@ -32,13 +33,12 @@ impl<'a, T: Text> Reader<'a, T> {
     pub fn new(text: &'a [u8], limit: usize) -> Reader<'a, T>
         ensures text { result.text.now ≡ text.now }
         ensures limit { result.limit ≡ limit }
-        ensures start { (result.place ≡ 0) × (result.line ≡ 1) }
+        ensures start { (result.at.place ≡ 0) × (result.at.line ≡ 1) }
     {
         Reader {
             text,
             limit,
-            place: 0,
-            line: 1,
+            at: Spot { place: 0, line: 1 },
             kind: PhantomData,
         }
     }
@@ -47,7 +47,7 @@ impl<'a, T: Text> Reader<'a, T> {
     pub fn with_default_limit(text: &'a [u8]) -> Reader<'a, T>
         ensures text { result.text.now ≡ text.now }
         ensures limit { result.limit ≡ 1048576 }
-        ensures start { (result.place ≡ 0) × (result.line ≡ 1) }
+        ensures start { (result.at.place ≡ 0) × (result.at.line ≡ 1) }
     {
         Reader::new(text, DEFAULT_LIMIT)
     }
@@ -69,46 +69,43 @@ impl<'a, T: Text> Reader<'a, T> {
     pub fn next_line(&mut self, heap: Global) -> Result<Option<Line<'a>>, ReadFault>
         ensures text { self.new.text.now ≡ self.old.text.now }
         ensures limit { self.new.limit ≡ self.old.limit }
-        ensures gives { Gives (left T.Text.rules self.old.limit self.old.text.now self.old.place self.old.line) (left T.Text.rules self.new.limit self.new.text.now self.new.place self.new.line) result }
+        ensures gives { Gives (left T.Text.rules self.old.limit self.old.text.now self.old.at.place self.old.at.line) (left T.Text.rules self.new.limit self.new.text.now self.new.at.place self.new.at.line) result }
     {
         self.check_length()?;
-        self.next_within(heap)
+        next_from::<T>(heap, self.text, &mut self.at)
     }
+}
 
-    // The next line begins `by` bytes on, and has the next number.
-    fn advance(&mut self, by: usize)
-        requires { (0 < by) × (self.old.place + by ≤ length self.old.text.now) }
-        ensures text { self.new.text.now ≡ self.old.text.now }
-        ensures limit { self.new.limit ≡ self.old.limit }
-        ensures place { self.new.place ≡ self.old.place + by }
-        ensures line { self.new.line ≡ self.old.line + 1 }
-    {
-        self.place += by;
-        self.line += 1;
-    }
-
-    fn next_within(&mut self, heap: Global) -> Result<Option<Line<'a>>, ReadFault>
-        ensures text { self.new.text.now ≡ self.old.text.now }
-        ensures limit { self.new.limit ≡ self.old.limit }
-        ensures gives { Gives (rest T.Text.rules self.old.text.now self.old.place self.old.line) (rest T.Text.rules self.new.text.now self.new.place self.new.line) result }
-    {
-        let text = self.text;
-        while self.place < text.len() {
-            let place = self.place;
-            let line = self.line;
-            let after = &text[place..];
-            let length = length_before(after, [NEWLINE, NEWLINE]);
-            let words = words_of::<T>(heap, &after[0..length], place, line)?;
-            self.advance((length + 1).min(after.len()));
-            if !words.is_empty() {
-                return Ok(Some(Line {
-                    number: line,
-                    words,
-                }));
-            }
+// The next line behind `at` that holds words, or what is wrong with the next line that counts.
+fn next_from<'a, T: Text>(
+    heap: Global,
+    text: &'a [u8],
+    at: &mut Spot,
+) -> Result<Option<Line<'a>>, ReadFault>
+    requires within { at.old.place ≤ length text.now }
+    requires counted { at.old.line ≤ at.old.place + 1 }
+    ensures within { at.new.place ≤ length text.now }
+    ensures counted { at.new.line ≤ at.new.place + 1 }
+    ensures gives { Gives (rest T.Text.rules text.now at.old.place at.old.line) (rest T.Text.rules text.now at.new.place at.new.line) result }
+{
+    while at.place < text.len() {
+        let start = *at;
+        let after = &text[start.place..];
+        let length = length_before(after, [NEWLINE, NEWLINE]);
+        let line = RawLine {
+            bytes: &after[..length],
+            at: start,
+        };
+        let words = words_of::<T>(heap, line)?;
+        *at = start.next_line((length + 1).min(after.len()));
+        if !words.is_empty() {
+            return Ok(Some(Line {
+                number: start.line,
+                words,
+            }));
         }
-        Ok(None)
     }
+    Ok(None)
 }
 
 // All lines of a text that hold words, or the first fault.

@@ -1,52 +1,28 @@
 // Shows what the reader, the numbers and the name table make of some texts.
 #![tactic(auto)]
 
-use names::{NameFault, NameTable};
+use names::NameTable;
 use std::alloc::Global;
 use std::io;
-use text::{DEFAULT_LIMIT, File, Line, ReadFault, Script, Text, read_lines, read_number};
+use text::{DEFAULT_LIMIT, File, Script, Text, read_lines, read_number};
 
-fn print_word(rt: &impl Print, bytes: &[u8]) -> io::Result<()> {
-    match std::str::from_utf8(bytes) {
-        Ok(word) => print!(rt; " {word}"),
-        Err(_) => print!(rt; " ?"),
-    }
-}
-
-fn print_lines(rt: &impl Print, lines: &[Line]) -> io::Result<()> {
-    for line in lines {
-        let number = line.number;
-        print!(rt; "line {number}:")?;
-        for word in &line.words {
-            print_word(rt, word.bytes)?;
-        }
-        println!(rt; "")?;
-    }
-    Ok(())
+fn shown(bytes: &[u8]) -> &str {
+    std::str::from_utf8(bytes).unwrap_or("?")
 }
 
 // Prints the words of a text line by line, or its first fault.
 fn check<T: Text>(rt: &impl Print, heap: Global, text: &[u8], limit: usize) -> io::Result<()> {
     match read_lines::<T>(heap, text, limit) {
-        Ok(lines) => print_lines(rt, &lines),
-        Err(ReadFault::Text(fault)) => {
-            let number = fault.fault.number();
-            let line = fault.line;
-            println!(rt; "fault {number} line {line}")
-        }
-        Err(ReadFault::Memory) => println!(rt; "no memory"),
+        Ok(lines) => lines.iter().try_for_each(|line| println!(rt; "{line}")),
+        Err(fault) => println!(rt; "{fault}"),
     }
 }
 
 fn check_number(rt: &impl Print, word: &[u8]) -> io::Result<()> {
-    print!(rt; "number")?;
-    print_word(rt, word)?;
+    let said = shown(word);
     match read_number(word) {
-        Ok(n) => println!(rt; " is {n}"),
-        Err(fault) => {
-            let number = fault.number();
-            println!(rt; " is fault {number}")
-        }
+        Ok(n) => println!(rt; "number {said} is {n}"),
+        Err(fault) => println!(rt; "number {said} is {fault}"),
     }
 }
 
@@ -60,24 +36,20 @@ fn check_names(rt: &impl Print, heap: Global, text: &[u8], room: u32) -> io::Res
         let number = line.number;
         match names.enter(&line.words, room) {
             Ok(()) => println!(rt; "line {number}: entered")?,
-            Err(NameFault::NoRoom) => println!(rt; "line {number}: fault 36")?,
-            Err(NameFault::Memory) => println!(rt; "line {number}: no memory")?,
+            Err(fault) => println!(rt; "line {number}: {fault}")?,
         }
     }
     print_names(rt, &names)
 }
 
 fn print_names(rt: &impl Print, names: &NameTable) -> io::Result<()> {
-    print!(rt; "model")?;
-    print_word(rt, names.model())?;
-    println!(rt; "")?;
+    println!(rt; "model {}", shown(names.model()))?;
     for number in 0..10u32 {
         if let Some(name) = names.name(number) {
-            print!(rt; "{number}:")?;
-            print_word(rt, name)?;
+            let said = shown(name);
             match names.find(name) {
-                Some(found) => println!(rt; " is {found}")?,
-                None => println!(rt; " is unknown")?,
+                Some(found) => println!(rt; "{number}: {said} is {found}")?,
+                None => println!(rt; "{number}: {said} is unknown")?,
             }
         }
     }

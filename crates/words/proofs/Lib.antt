@@ -7,5 +7,4 @@ mod Parts
 mod Pigeonhole
 mod Shots
 mod Steps
-mod Tested
 mod Undoing

@@ -1,13 +1,12 @@
 -- What the calls of the inverse log make of its meaning.
-use Rattle.std.proofs.Common.{◌≡◌, ℕ, suc, ◌+◌, ◌-◌, ◌*◌, ◌<◌, ◌≤◌, List, ◌∷◌, length, get_or, take, drop, set, replicate, Ok, sym, refl, ap, ◌∙◌, subst, ⊎_elim, mul-le-mul_left, mul-one, add-one, arith}
+use Rattle.std.proofs.Common.{◌≡◌, ℕ, suc, ◌+◌, ◌-◌, ◌*◌, ◌<◌, ◌≤◌, List, [], ◌∷◌, ◌++◌, length, get_or, take, drop, set, Ok, sym, refl, ap, ◌∙◌, subst, mul-le-mul_left, mul-one, add-one, arith}
 use lib.Seq.{take-set-lt}
-use Rattle.std.proofs.lemmas.List.{get_or-take, get_or-set_same, get_or-set_other, length-take-le, length-replicate, set-set, set-get_or, take_at, drop-set-lt, drop-drop}
-use Rattle.std.proofs.lemmas.Bool.{cases_eq}
-use Rattle.words.specs.Meaning.{Sets, Opens, Keeps, Drops, levels, newest}
-use Rattle.words.specs.Making.{fresh, cleared}
-use Rattle.words.specs.InverseLog.{undo, pile, log_meaning, log_lent, NoteAt, Notes}
+use Rattle.std.proofs.lemmas.List.{get_or-take, get_or_append_left, get_or_at, length-append, length-take-le, set-set, set-get_or, drop-set-lt, drop-drop}
+use Rattle.words.specs.declared.inverse_log.InverseLog.{InverseLog}
+use Rattle.words.specs.Meaning.{Meaning, Sets, Opens, Keeps, Drops, levels, newest}
+use Rattle.words.specs.InverseLog.{undo, pile, log_meaning, log_lent, Notes}
 use Rattle.words.proofs.Blocks.{cell-rest}
-use Rattle.words.proofs.Noting.{Sound, Owed, owed}
+use Rattle.words.proofs.Noting.{Sound, sound_of}
 use Rattle.words.proofs.Images.{same_meaning}
 use Rattle.words.proofs.Undoing.{undo-same, length-undo, pile-same, length-pile}
 
@@ -30,6 +29,13 @@ behind-rest ws ws' n d rest =
 lent_by : (lender lender' : ℕ) (ws ws' : List ℕ) (n d : ℕ) → lender' ≡ lender → drop (n * (3 * d + 2)) ws' ≡ drop (n * (3 * d + 2)) ws → log_lent lender' ws' n d ≡ log_lent lender ws n d
 lent_by lender lender' ws ws' n d same behind = λ i. record { lender = same i; behind = behind i }
 
+pub lent_rest : (lender lender' : ℕ) (ws ws' : List ℕ) (n d : ℕ) → lender' ≡ lender → drop n ws' ≡ drop n ws → log_lent lender' ws' n d ≡ log_lent lender ws n d
+lent_rest lender lender' ws ws' n d same rest = lent_by lender lender' ws ws' n d same (behind-rest ws ws' n d rest)
+
+pub lent_notes : (lender lender' : ℕ) (n d level : ℕ) (first : List ℕ → List ℕ) (ws noted ws' noted' : List ℕ) → lender' ≡ lender → Notes n d level first ws noted ws' noted'
+    → log_lent lender' ws' n d ≡ log_lent lender ws n d
+lent_notes lender lender' n d level first ws noted ws' noted' same h = lent_by lender lender' ws ws' n d same h.behind
+
 -- the levels below one whose notes alone changed have saved what they had
 older : (n d level : ℕ) (first : List ℕ → List ℕ) (ws noted ws' noted' : List ℕ) (k : ℕ) → k ≤ level → ((other : ℕ) → other < k → get_or noted other 0 ≤ n)
     → Notes n d level first ws noted ws' noted' → (image : List ℕ) → pile ws' n noted' k image ≡ pile ws n noted k image
@@ -48,7 +54,29 @@ piled n d level first ws noted ws' noted' few h image =
     ap (λ im. im ∷ pile ws' n noted' level im) (h.undone image)
     ∙ ap (λ older'. undo ws n level (get_or noted level 0) (first image) ∷ older') (older n d level first ws noted ws' noted' level (omega arith) few h (undo ws n level (get_or noted level 0) (first image)))
 
-module _ (ws : List ℕ) (n d k : ℕ) (noted : List ℕ) (s : Sound ws n d k noted) where
+-- what a log means
+abbrev pub meaning_of : InverseLog → Meaning
+meaning_of log = log_meaning log.words.now log.shape.size log.shape.limit (length log.noted.items) log.noted.items
+
+module _ (log : InverseLog) where
+  abbrev ws : List ℕ
+  ws = log.words.now
+
+  abbrev n : ℕ
+  n = log.shape.size
+
+  abbrev d : ℕ
+  d = log.shape.limit
+
+  abbrev noted : List ℕ
+  noted = log.noted.items
+
+  abbrev k : ℕ
+  k = length noted
+
+  abbrev s : Sound ws n d k noted
+  s = sound_of log
+
   pub image_within : n ≤ length ws
   image_within = omega (arith, s.room, image-before n d)
 
@@ -68,7 +96,7 @@ module _ (ws : List ℕ) (n d k : ℕ) (noted : List ℕ) (s : Sound ws n d k no
 
   pub sets : (ws' noted' : List ℕ) (at word : ℕ) → at < n → take n ws' ≡ take n ws
       → pile ws' n noted' k (set (take n ws) at word) ≡ pile ws n noted k (take n ws)
-      → Sets (log_meaning ws n d k noted) (log_meaning (set ws' at word) n d k noted') at word (Ok tt)
+      → Sets (meaning_of log) (log_meaning (set ws' at word) n d k noted') at word (Ok tt)
   sets ws' noted' at word below same saved =
       let image : take n (set ws' at word) ≡ set (take n ws) at word = take-set-lt n ws' at word below ∙ ap (λ im. set im at word) same in (
         omega (arith, image-size),
@@ -78,40 +106,24 @@ module _ (ws : List ℕ) (n d k : ℕ) (noted : List ℕ) (s : Sound ws n d k no
 
   -- ---- open
 
-  opened-counts : (level : ℕ) → level < k → get_or (set noted k 0) level 0 ≡ get_or noted level 0
-  opened-counts level below = get_or-set_other noted k level 0 0 (λ e. omega arith)
+  module _ (noted' : List ℕ) (more : noted' ≡ noted ++ 0 ∷ []) where
+    counts-more : (level : ℕ) → level < k → get_or noted' level 0 ≡ get_or noted level 0
+    counts-more level below = ap (λ xs. get_or xs level 0) more ∙ get_or_append_left noted (0 ∷ []) 0 level below
 
-  pub opens : k < d → k < length noted → Opens (log_meaning ws n d k noted) (log_meaning ws n d (k + 1) (set noted k 0)) (Ok tt)
-  opens below array = (
-    omega (arith, length-pile ws n noted k (take n ws)),
-    same_meaning refl refl
-        (ap (λ m. pile ws n (set noted k 0) m (take n ws)) (add-one k)
-        ∙ ap (λ m. undo ws n k m (take n ws) ∷ pile ws n (set noted k 0) k (undo ws n k m (take n ws))) (get_or-set_same noted k 0 0 array)
-        ∙ ap (λ older'. take n ws ∷ older') (pile-same ws ws n noted (set noted k 0) k (λ level less image. ap (λ m. undo ws n level m image) (opened-counts level less)) (take n ws))),
-  )
+    none_noted : get_or noted' k 0 ≡ 0
+    none_noted = ap (λ xs. get_or xs k 0) more ∙ get_or_at noted 0 [] 0 k refl
 
-  pub opens_none : d ≡ k → levels (log_meaning ws n d k noted) ≡ d
-  opens_none full = length-pile ws n noted k (take n ws) ∙ sym full
+    depth-more : length noted' ≡ suc k
+    depth-more = ap length more ∙ length-append noted (0 ∷ []) ∙ add-one k
 
-  opened-note : (level i : ℕ) → k < length noted → NoteAt (k + 1) (set noted k 0) level i → NoteAt k noted level i
-  opened-note level i array h =
-      ⊎_elim (λ last. absurd (let none : i < 0 = subst (λ m. i < m) (ap (λ l. get_or (set noted k 0) l 0) last ∙ get_or-set_same noted k 0 0 array) h.1 in omega arith))
-      (λ ne. let less : level < k = omega (arith, h.0) in (less, subst (λ m. i < m) (opened-counts level less) h.1)) (cases_eq level k)
-
-  pub owed_open : k < d → k < length noted → Owed ws n d (k + 1) (set noted k 0)
-  owed_open below array =
-      owed ws n d (k + 1) (set noted k 0)
-      (record {
-        room = s.room;
-        few = s.few;
-        low = s.low;
-        shallow = omega arith;
-        counted = λ level h.
-            ⊎_elim (λ last. subst (λ m. m ≤ n) (sym (ap (λ l. get_or (set noted k 0) l 0) last ∙ get_or-set_same noted k 0 0 array)) (omega arith))
-            (λ ne. let less : level < k = omega arith in subst (λ m. m ≤ n) (sym (opened-counts level less)) (s.counted level less)) (cases_eq level k);
-        within = λ level i h. s.within level i (opened-note level i array h);
-        placed = λ level i h. s.placed level i (opened-note level i array h);
-      })
+    pub opens : k < d → Opens (meaning_of log) (log_meaning ws n d (length noted') noted') (Ok tt)
+    opens below = (
+      omega (arith, length-pile ws n noted k (take n ws)),
+      same_meaning refl refl
+          (ap (λ m. pile ws n noted' m (take n ws)) depth-more
+          ∙ ap (λ m. undo ws n k m (take n ws) ∷ pile ws n noted' k (undo ws n k m (take n ws))) none_noted
+          ∙ ap (λ older'. take n ws ∷ older') (pile-same ws ws n noted noted' k (λ level less image. ap (λ m. undo ws n level m image) (counts-more level less)) (take n ws))),
+    )
 
   -- ---- keep and drop
 
@@ -124,17 +136,17 @@ module _ (ws : List ℕ) (n d k : ℕ) (noted : List ℕ) (s : Sound ws n d k no
 
   pub keeps : (ws' noted' : List ℕ) (level : ℕ) → k ≡ suc level → take n ws' ≡ take n ws
       → pile ws' n noted' level (take n ws) ≡ pile ws n noted level (undo ws n level (get_or noted level 0) (take n ws))
-      → Keeps (log_meaning ws n d k noted) (log_meaning ws' n d level noted') (Ok tt)
+      → Keeps (meaning_of log) (log_meaning ws' n d level noted') (Ok tt)
   keeps ws' noted' level depth same saved = (
     omega (arith, length-pile ws n noted k (take n ws)),
     same_meaning refl same (ap (pile ws' n noted' level) same ∙ saved ∙ sym (ap (λ m. drop 1 (pile ws n noted m (take n ws))) depth)),
   )
 
-  pub none_open : k ≡ 0 → levels (log_meaning ws n d k noted) ≡ 0
-  none_open none = length-pile ws n noted k (take n ws) ∙ none
+  pub opens_none : d ≡ k → levels (meaning_of log) ≡ d
+  opens_none full = length-pile ws n noted k (take n ws) ∙ sym full
 
   pub drops : (ws' : List ℕ) (level : ℕ) → k ≡ suc level → take n ws' ≡ undo ws n level (get_or noted level 0) (take n ws) → drop n ws' ≡ drop n ws
-      → Drops (log_meaning ws n d k noted) (log_meaning ws' n d level noted) (Ok tt)
+      → Drops (meaning_of log) (log_meaning ws' n d level noted) (Ok tt)
   drops ws' level depth image rest = (
     omega (arith, length-pile ws n noted k (take n ws)),
     same_meaning refl (image ∙ sym (ap (λ m. newest (pile ws n noted m (take n ws))) depth))
@@ -142,35 +154,17 @@ module _ (ws : List ℕ) (n d k : ℕ) (noted : List ℕ) (s : Sound ws n d k no
     ap length image ∙ length-undo ws n level (get_or noted level 0) (take n ws),
   )
 
--- the fields that no call changes
-pub same_log : (ws : List ℕ) (n d k n' d' k' : ℕ) (noted : List ℕ) → n' ≡ n → d' ≡ d → k' ≡ k → log_meaning ws n' d' k' noted ≡ log_meaning ws n d k noted
-same_log ws n d k n' d' k' noted p q r = λ i. log_meaning ws (p i) (q i) (r i) noted
+-- ---- the newest level gone
 
-pub same_lent : (lender : ℕ) (ws : List ℕ) (n d n' d' : ℕ) → n' ≡ n → d' ≡ d → log_lent lender ws n' d' ≡ log_lent lender ws n d
-same_lent lender ws n d n' d' p q = λ i. log_lent lender ws (p i) (q i)
+module _ (ws : List ℕ) (n d level : ℕ) (noted noted' : List ℕ) (some : level ≤ length noted) (fewer : noted' ≡ take level noted) where
+  depth-fewer : length noted' ≡ level
+  depth-fewer = ap length fewer ∙ length-take-le level noted some
 
-pub lent_rest : (lender lender' : ℕ) (ws ws' : List ℕ) (n d : ℕ) → lender' ≡ lender → drop n ws' ≡ drop n ws → log_lent lender' ws' n d ≡ log_lent lender ws n d
-lent_rest lender lender' ws ws' n d same rest = lent_by lender lender' ws ws' n d same (behind-rest ws ws' n d rest)
+  counts-fewer : (other : ℕ) → other < level → get_or noted' other 0 ≡ get_or noted other 0
+  counts-fewer other less = ap (λ xs. get_or xs other 0) fewer ∙ get_or-take level noted other 0 less
 
-pub lent_notes : (lender lender' : ℕ) (n d level : ℕ) (first : List ℕ → List ℕ) (ws noted ws' noted' : List ℕ) → lender' ≡ lender → Notes n d level first ws noted ws' noted'
-    → log_lent lender' ws' n d ≡ log_lent lender ws n d
-lent_notes lender lender' n d level first ws noted ws' noted' same h = lent_by lender lender' ws ws' n d same h.behind
-
--- fewer levels ask for less
-pub owed_fewer : (ws : List ℕ) (n d k level : ℕ) (noted : List ℕ) → level ≤ k → Sound ws n d k noted → Owed ws n d level noted
-owed_fewer ws n d k level noted less s =
-    owed ws n d level noted
-    (record {
-      room = s.room;
-      few = s.few;
-      low = s.low;
-      shallow = omega (arith, s.shallow);
-      counted = λ other h. s.counted other (omega arith);
-      within = λ other i h. s.within other i (omega (arith, h.0), h.1);
-      placed = λ other i h. s.placed other i (omega (arith, h.0), h.1);
-    })
-
--- ---- the making
-
-pub makes : (n d : ℕ) (ws ws' noted : List ℕ) → ws' ≡ cleared n ws → log_meaning ws' n d 0 noted ≡ fresh n d
-makes n d ws ws' noted made = same_meaning refl (ap (take n) made ∙ take_at (replicate n 0) (drop n ws) n (length-replicate n 0)) refl
+  pub meaning-fewer : log_meaning ws n d (length noted') noted' ≡ log_meaning ws n d level noted
+  meaning-fewer =
+      same_meaning refl refl
+      (ap (λ m. pile ws n noted' m (take n ws)) depth-fewer
+      ∙ pile-same ws ws n noted noted' level (λ other less image. ap (λ m. undo ws n other m image) (counts-fewer other less)) (take n ws))

@@ -1,6 +1,7 @@
 -- One note more in a level.
 use Rattle.std.proofs.Common.{◌≡◌, ℕ, ◌+◌, ◌*◌, ◌<◌, ◌≤◌, ◌≢◌, List, length, get_or, drop, set, sym, refl, ap, ◌∙◌, subst, ⊎_elim, add-one, arith}
-use Rattle.std.proofs.lemmas.List.{get_or-set_same, get_or-set_other, length-set, drop-set-lt}
+use Rattle.std.proofs.lemmas.List.{get_or-set_same, get_or-set_other, length-set, drop-set-lt, take_at}
+use Rattle.std.specs.List.{refill}
 use Rattle.std.proofs.lemmas.Bool.{cases_eq}
 use Rattle.words.specs.declared.inverse_log.InverseLog.{InverseLog}
 use Rattle.words.specs.InverseLog.{cell, word_at, value_at, place_of, undo, NoteAt, Within, Placed, HasNoted, Notes}
@@ -22,8 +23,6 @@ pub record Sound (ws : List ℕ) (n d k : ℕ) (noted : List ℕ) : Type 0 where
 abbrev pub Owed : List ℕ → ℕ → ℕ → ℕ → List ℕ → Type 0
 Owed ws n d k noted = record {
   room : n * (3 * d + 2) ≤ length ws;
-  few : n ≤ 65536;
-  low : d ≤ 8;
   shallow : k ≤ d;
   counted : (level : ℕ) → level < k → get_or noted level 0 ≤ n;
   within : Within ws n k noted;
@@ -31,7 +30,7 @@ Owed ws n d k noted = record {
 }
 
 pub owed : (ws : List ℕ) (n d k : ℕ) (noted : List ℕ) → Sound ws n d k noted → Owed ws n d k noted
-owed ws n d k noted s = record { room = s.room; few = s.few; low = s.low; shallow = s.shallow; counted = s.counted; within = s.within; placed = s.placed }
+owed ws n d k noted s = record { room = s.room; shallow = s.shallow; counted = s.counted; within = s.within; placed = s.placed }
 
 module _ (ws : List ℕ) (n d k : ℕ) (noted : List ℕ) (s : Sound ws n d k noted) where
   -- a word written where no note looks
@@ -189,6 +188,7 @@ module _ (ws : List ℕ) (n d k : ℕ) (noted : List ℕ) (s : Sound ws n d k no
             (set image at former);
         words = λ other i ne short. through (3 * other + 1) i short (λ e _. ne (omega arith)) (λ e _. omega arith) (λ e _. omega arith);
         values = λ other i ne short. through (3 * other + 2) i short (λ e _. omega arith) (λ e _. ne (omega arith)) (λ e _. omega arith);
+        depth = length-set noted level (count + 1);
         counts = count_other;
       }
 
@@ -215,15 +215,6 @@ module _ (ws : List ℕ) (n d k : ℕ) (noted : List ℕ) (s : Sound ws n d k no
     pub notes_at : Notes n d level (λ image. set image at former) ws noted (set (set (set ws x at) y former) z count) noted_more
     notes_at = subst (λ ws'. Notes n d level (λ image. set image at former) ws noted ws' noted_more) place_at notes_new
 
-    pub word_within : x < length ws
-    word_within = rw x-is (within_memory (3 * level + 1) count (omega (arith, s.shallow)) room_for_note)
-
-    pub value_within : y < length ws
-    value_within = rw y-is (within_memory (3 * level + 2) count (omega (arith, s.shallow)) room_for_note)
-
-    pub place_within : z < length ws
-    place_within = rw z-is (within_memory (3 * level + 3) at (omega (arith, s.shallow)) below)
-
 -- where the word is noted already, nothing has to be written
 pub notes_old : (ws : List ℕ) (n d level at former : ℕ) (noted : List ℕ) → HasNoted ws n level (get_or noted level 0) at
     → Notes n d level (λ image. set image at former) ws noted ws noted
@@ -234,10 +225,77 @@ notes_old ws n d level at former noted has =
       undone = λ image. sym (undo_noted ws n level (get_or noted level 0) at former image has);
       words = λ other i ne short. refl;
       values = λ other i ne short. refl;
+      depth = refl;
       counts = λ other ne. refl;
     }
 
 -- the ghost fields of an inverse log
-pub sound_of : (log : InverseLog) → Sound log.words.now log.size log.limit log.depth log.noted
+pub sound_of : (log : InverseLog) → Sound log.words.now log.shape.size log.shape.limit (length log.noted.items) log.noted.items
 sound_of log =
-    record { room = log.room; few = log.few; low = log.low; shallow = log.shallow; counted = log.counted; within = log.within; placed = log.placed }
+    record { room = log.room; few = log.shape.few; low = log.shape.low; shallow = log.shallow; counted = log.counted; within = log.within; placed = log.placed }
+
+-- ---- the inverse log's own note
+
+-- A word that its level has not noted, how many words that has, and where the word, its former value and its place go.
+pub record Unnoted (log : InverseLog) (level at count x y z : ℕ) : Type 0 where
+  pub used : level < length log.noted.items
+  pub below : at < log.shape.size
+  pub missing : HasNoted log.words.now log.shape.size level (get_or log.noted.items level 0) at → ⊥
+  pub count-is : count ≡ get_or log.noted.items level 0
+  pub x-is : x ≡ (3 * level + 1) * log.shape.size + count
+  pub y-is : y ≡ (3 * level + 2) * log.shape.size + count
+  pub z-is : z ≡ (3 * level + 3) * log.shape.size + at
+
+module _ (log : InverseLog) (level at former count : ℕ) where
+  abbrev ws : List ℕ
+  ws = log.words.now
+
+  abbrev n : ℕ
+  n = log.shape.size
+
+  abbrev d : ℕ
+  d = log.shape.limit
+
+  abbrev noted : List ℕ
+  noted = log.noted.items
+
+  pub note_room : level < length noted → at < n → (HasNoted ws n level (get_or noted level 0) at → ⊥) → count ≡ get_or noted level 0 → count < n
+  note_room used below missing is = rw is (room_for_note ws n d (length noted) noted (sound_of log) level at former used below used missing)
+
+  module _ (x y z : ℕ) (u : Unnoted log level at count x y z) where
+    abbrev x-here : x ≡ (3 * level + 1) * n + get_or noted level 0
+    x-here = u.x-is ∙ ap (λ c. (3 * level + 1) * n + c) u.count-is
+
+    abbrev y-here : y ≡ (3 * level + 2) * n + get_or noted level 0
+    y-here = u.y-is ∙ ap (λ c. (3 * level + 2) * n + c) u.count-is
+
+    pub owed_log_word : Owed (set ws x at) n d (length noted) noted
+    owed_log_word = owed_word ws n d (length noted) noted (sound_of log) level at former u.used u.below u.used u.missing x y z x-here y-here u.z-is
+
+    pub owed_log_value : Owed (set (set ws x at) y former) n d (length noted) noted
+    owed_log_value = owed_value ws n d (length noted) noted (sound_of log) level at former u.used u.below u.used u.missing x y z x-here y-here u.z-is
+
+    module _ (noted' : List ℕ) (noted'-is : noted' ≡ set noted level (count + 1)) where
+      more-is : set noted level (get_or noted level 0 + 1) ≡ noted'
+      more-is = ap (λ c. set noted level (c + 1)) (sym u.count-is) ∙ sym noted'-is
+
+      depth-is : length noted ≡ length noted'
+      depth-is = sym (ap length noted'-is ∙ length-set noted level (count + 1))
+
+      pub owed_log_note : Owed (set (set (set ws x at) y former) z count) n d (length noted') noted'
+      owed_log_note =
+          subst (λ c. Owed (set (set (set ws x at) y former) z c) n d (length noted') noted') (sym u.count-is)
+          (subst (λ k. Owed (set (set (set ws x at) y former) z (get_or noted level 0)) n d k noted') depth-is
+          (subst (λ xs. Owed (set (set (set ws x at) y former) z (get_or noted level 0)) n d (length noted) xs) more-is
+          (owed_note ws n d (length noted) noted (sound_of log) level at former u.used u.below u.used u.missing x y z x-here y-here u.z-is)))
+
+      pub log-notes : Notes n d level (λ image. set image at former) ws noted (set (set (set ws x at) y former) z count) noted'
+      log-notes =
+          subst (λ c. Notes n d level (λ image. set image at former) ws noted (set (set (set ws x at) y former) z c) noted') (sym u.count-is)
+          (subst (λ xs. Notes n d level (λ image. set image at former) ws noted (set (set (set ws x at) y former) z (get_or noted level 0)) xs) more-is
+          (notes_at ws n d (length noted) noted (sound_of log) level at former u.used u.below u.used u.missing x y z x-here y-here u.z-is))
+
+-- an element written through the slice
+pub refilled : (xs zs : List ℕ) (i v : ℕ) → zs ≡ xs → refill (length xs) xs (set zs i v) ≡ set xs i v
+refilled xs zs i v same =
+    ap (λ ys. refill (length xs) xs (set ys i v)) same ∙ take_at (set xs i v) (drop (length (set xs i v)) xs) (length xs) (length-set xs i v)

@@ -1,21 +1,18 @@
 -- What the calls of the snapshot make of its memory: the image, the parts for the levels, and what lies behind them.
-use Rattle.std.proofs.Common.{◌≡◌, ℕ, zero, suc, ◌+◌, ◌-◌, ◌*◌, ◌/◌, ◌<◌, ◌≤◌, List, ◌∷◌, ◌++◌, length, take, drop, sym, refl, ap, ◌∙◌, mul-le-mul_right, mul_comm, add-mul, one-mul, le-div_iff_mul-le, div-mul-le_self, arith}
+use Rattle.std.proofs.Common.{◌≡◌, ℕ, zero, suc, ◌+◌, ◌-◌, ◌*◌, ◌/◌, ◌<◌, ◌≤◌, List, ◌∷◌, ◌++◌, length, take, drop, sym, refl, ap, ◌∙◌, mul-le-mul_right, add-mul, one-mul, le-div_iff_mul-le, div-mul-le_self, arith}
 use native.Mathlib.Nat.{min-eq_left, min-le_right}
-use lib.Seq.{paste}
-use Rattle.std.proofs.lemmas.List.{append_assoc, length-append, length-take-le, take_at, take-append-le, take-take, drop_at, drop-drop, drop-take}
+use lib.Seq.{paste, length_paste_head}
+use Rattle.std.proofs.lemmas.List.{append_assoc, length-take-le, take_at, take-append-le, take-take, drop_at, drop-drop, drop-take}
 use Rattle.std.proofs.lemmas.List.Edits.{drop-paste}
 use Rattle.words.specs.Snapshot.{part, parts, width}
 
 -- ---- a list with a part of it replaced: what stands before, in and behind that part
 
 module _ (ws src : List ℕ) (at n : ℕ) (fits : at + n ≤ length ws) (long : n ≤ length src) where
-  front_length : length (take at ws ++ take n src) ≡ at + n
-  front_length = length-append (take at ws) (take n src) ∙ simp (length-take-le at ws (omega arith), length-take-le n src long)
-
   pub take-before : (m : ℕ) → m ≤ at → take m (paste ws at src n) ≡ take m ws
   take-before m before =
       let short : m ≤ length (take at ws) = simp (length-take-le at ws (omega arith)) (omega arith) in
-      take-append-le m (take at ws ++ take n src) (drop (at + n) ws) (rw front_length (omega arith))
+      take-append-le m (take at ws ++ take n src) (drop (at + n) ws) (rw (length_paste_head ws at src n (omega arith) long) (omega arith))
       ∙ take-append-le m (take at ws) (take n src) short ∙ take-take m at ws before
 
   pub part-before : (m from : ℕ) → from + m ≤ at → take m (drop from (paste ws at src n)) ≡ take m (drop from ws)
@@ -60,11 +57,6 @@ pub width_room : (long n d : ℕ) → width long n d * (d + 1) ≤ long
 width_room long n d =
     let less : width long n d ≤ long / (d + 1) = min-le_right n (long / (d + 1)) in
     omega (arith, mul-le-mul_right (d + 1) less, div-mul-le_self long (d + 1))
-
--- the image and the parts for k levels lie within the memory
-pub parts_room : (long n d k : ℕ) → k ≤ d → (k + 1) * width long n d ≤ long
-parts_room long n d k few =
-    omega (arith, width_room long n d, mul_comm (width long n d) (d + 1), mul-le-mul_right {m = k + 1} {n = d + 1} (width long n d) (omega arith))
 
 -- ---- the saved images
 

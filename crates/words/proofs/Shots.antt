@@ -1,11 +1,11 @@
 -- What the calls of the snapshot make of its meaning.
-use Rattle.std.proofs.Common.{◌≡◌, ℕ, suc, ◌+◌, ◌*◌, ◌<◌, ◌≤◌, min, List, ◌∷◌, length, take, drop, set, replicate, Ok, sym, refl, ap, ◌∙◌, mul-le-mul_right, mul_comm, one-mul, add-one, arith}
+use Rattle.std.proofs.Common.{◌≡◌, ℕ, suc, ◌+◌, ◌*◌, ◌<◌, ◌≤◌, min, List, ◌∷◌, length, take, drop, set, Ok, sym, refl, ap, ◌∙◌, mul-le-mul_right, mul_comm, one-mul, add-one, arith}
 use native.Mathlib.Nat.{zero-min, min-eq_left, min-eq_right, min-le_right}
 use lib.Seq.{paste, take-set-lt}
-use Rattle.std.proofs.lemmas.List.{length-take-le, length-replicate, length-append, length-drop, length-set, take_at, drop-set-lt}
+use Rattle.std.proofs.lemmas.List.{length-take-le, length-drop, length-set, drop-set-lt}
 use Rattle.std.proofs.lemmas.List.Edits.{length-paste}
 use Rattle.words.specs.Meaning.{Meaning, Sets, Opens, Keeps, Drops, wrote, opened, dropped, levels, size}
-use Rattle.words.specs.Making.{Fits, fresh, cleared}
+use Rattle.words.specs.Making.{Fits, laid}
 use Rattle.words.specs.Snapshot.{part, parts, width, snapshot_meaning, snapshot_lent}
 use Rattle.words.proofs.Images.{same_meaning}
 use Rattle.words.proofs.Parts.{take-before, part-before, part_within, drop-behind, parts_apart, behind-image, next-part, add_two, width_fits, width_room, parts_same, length-parts}
@@ -70,22 +70,11 @@ module _ (ws : List ℕ) (n d : ℕ) where
       let same : width (length ws') n d ≡ wide = ap (λ l. width l n d) long in
       λ i. record { lender = lender; behind = (ap (λ m. drop (m * (d + 1)) ws') same ∙ behind) i }
 
-  pub wide_within : wide ≤ length ws
-  wide_within = image_within ws wide d fit
-
   pub sets : (k at w : ℕ) → at < wide → Sets (snapshot_meaning ws n d k) (snapshot_meaning (set ws at w) n d k) at w (Ok tt)
   sets k at w below = (
     omega (arith, image-size ws wide d fit),
     shot_is (set ws at w) n d k wide (min k d) (ap (λ l. width l n d) (length-set ws at w)) refl ∙ set-image ws wide d fit (min k d) at w below,
   )
-
-  pub sets_lent : (lender at w : ℕ) → at < wide → snapshot_lent lender (set ws at w) n d ≡ snapshot_lent lender ws n d
-  sets_lent lender at w below =
-      let before : at < wide * (d + 1) = omega (arith, behind-image d wide, mul_comm wide (d + 1)) in
-      lent_same lender (set ws at w) (length-set ws at w) (drop-set-lt (wide * (d + 1)) ws at w before)
-
-  pub saves_room : (k : ℕ) → k < d → (k + 2) * wide ≤ length ws
-  saves_room k below = omega (arith, next-part k wide, level_within ws wide d fit k below)
 
   pub opens : (ws' : List ℕ) (k : ℕ) → k < d → ws' ≡ paste ws ((k + 1) * wide) ws wide → Opens (snapshot_meaning ws n d k) (snapshot_meaning ws' n d (k + 1)) (Ok tt)
   opens ws' k below copied =
@@ -113,9 +102,6 @@ module _ (ws : List ℕ) (n d : ℕ) where
         same_meaning refl refl (ap (parts ws wide) few ∙ ap (λ j. drop 1 (parts ws wide j)) (sym some)),
       )
 
-  pub keeps_none : (k : ℕ) → min k d ≡ 0 → levels (snapshot_meaning ws n d k) ≡ 0
-  keeps_none k none = length-parts ws wide (min k d) ∙ none
-
   pub drops : (ws' : List ℕ) (k k' : ℕ) → min k d ≡ suc k' → ws' ≡ paste ws 0 (drop ((k' + 1) * wide) ws) wide
       → Drops (snapshot_meaning ws n d k) (snapshot_meaning ws' n d k') (Ok tt)
   drops ws' k k' some copied =
@@ -141,9 +127,5 @@ module _ (ws : List ℕ) (n d : ℕ) where
 
 -- ---- the making
 
-pub makes : (n d : ℕ) (ws ws' : List ℕ) → Fits n d (d + 1) (length ws) → ws' ≡ cleared n ws → snapshot_meaning ws' n d 0 ≡ fresh n d
-makes n d ws ws' fits made =
-    let short : n ≤ length ws = image_within ws n d fits.room in
-    let long : length ws' ≡ length ws = ap length made ∙ length-append (replicate n 0) (drop n ws) ∙ simp (length-replicate, length-drop) (omega arith) in
-    shot_is ws' n d 0 n 0 (width_fits (length ws') n d (omega (arith, fits.room))) (zero-min d)
-    ∙ same_meaning refl (ap (take n) made ∙ take_at (replicate n 0) (drop n ws) n (length-replicate n 0)) refl
+pub laid-shot : (n d : ℕ) (ws : List ℕ) → Fits n d (d + 1) (length ws) → snapshot_meaning ws n d 0 ≡ laid n d ws
+laid-shot n d ws fits = shot_is ws n d 0 n 0 (width_fits (length ws) n d fits.room) (zero-min d)

@@ -1,51 +1,32 @@
 -- The turns of the loops that take a level's notes back, and that hand them to the level below.
-use Rattle.std.proofs.Common.{◌≡◌, ℕ, ◌+◌, ◌*◌, ◌<◌, ◌≢◌, List, length, get_or, take, drop, set, sym, refl, ap, ◌∙◌, subst, zero-add, zero-mul, add-one, arith}
+use Rattle.std.proofs.Common.{◌≡◌, ℕ, ◌+◌, ◌*◌, ◌<◌, ◌≢◌, List, length, get_or, take, drop, set, sym, ap, ◌∙◌, subst, add-one, arith}
 use lib.Seq.{take-set-lt}
 use Rattle.std.proofs.lemmas.List.{drop-set-lt}
 use Rattle.words.specs.declared.inverse_log.InverseLog.{InverseLog}
 use Rattle.words.specs.InverseLog.{word_at, value_at, undo, Notes}
-use Rattle.words.proofs.Blocks.{cell_within, cell-rest}
-use Rattle.words.proofs.Noting.{Sound, Owed, owed, sound_of, sound_set}
-
--- ---- a note that is read
-
--- the number of a block, and that the code's place in it is one of the memory
-pub note_within : (log : InverseLog) (b level i x : ℕ) → level < log.depth → i < get_or log.noted level 0 → b < 3 * level + 3
-    → x ≡ b * log.size + i → x < length log.words.now
-note_within log b level i x used noted few is =
-    let short = log.counted level used in
-    rw is (cell_within log.size log.limit b i (length log.words.now) log.room (omega (arith, log.shallow)) (omega arith))
+use Rattle.words.proofs.Blocks.{cell-rest}
 
 -- ---- taking back
 
-owed_image : (ws : List ℕ) (n d k : ℕ) (noted : List ℕ) (w v : ℕ) → w < n → Sound ws n d k noted → Owed (set ws w v) n d k noted
-owed_image ws n d k noted w v below s =
-    let here : 0 * n + w ≡ w = ap (λ m. m + w) (zero-mul n) ∙ zero-add w in
-    subst (λ at. Owed (set ws at v) n d k noted) here
-    (owed _ n d k noted (sound_set ws n d k noted s 0 w v below (λ level i h e _. omega arith) (λ level i h e _. omega arith)))
-
-module _ (log : InverseLog) (level i x y : ℕ) (used : level < log.depth) (noted : i < get_or log.noted level 0)
-    (x-is : x ≡ (3 * level + 1) * log.size + i) (y-is : y ≡ (3 * level + 2) * log.size + i) where
+module _ (log : InverseLog) (level i x y : ℕ) (used : level < length log.noted.items) (noted : i < get_or log.noted.items level 0)
+    (x-is : x ≡ (3 * level + 1) * log.shape.size + i) (y-is : y ≡ (3 * level + 2) * log.shape.size + i) where
   abbrev memory : List ℕ
   memory = log.words.now
 
-  word_is : get_or memory x 0 ≡ word_at memory log.size level i
+  word_is : get_or memory x 0 ≡ word_at memory log.shape.size level i
   word_is = ap (λ j. get_or memory j 0) x-is
 
-  value_is : get_or memory y 0 ≡ value_at memory log.size level i
+  value_is : get_or memory y 0 ≡ value_at memory log.shape.size level i
   value_is = ap (λ j. get_or memory j 0) y-is
 
-  pub word_below : get_or memory x 0 < log.size
+  pub word_below : get_or memory x 0 < log.shape.size
   word_below = rw word_is (log.within level i (used, noted))
 
-  pub owed_taken : Owed (set memory (get_or memory x 0) (get_or memory y 0)) log.size log.limit log.depth log.noted
-  owed_taken = owed_image memory log.size log.limit log.depth log.noted (get_or memory x 0) (get_or memory y 0) word_below (sound_of log)
-
-  pub rest_taken : (n : ℕ) (ws : List ℕ) → log.size ≡ n → drop n memory ≡ drop n ws → drop n (set memory (get_or memory x 0) (get_or memory y 0)) ≡ drop n ws
+  pub rest_taken : (n : ℕ) (ws : List ℕ) → log.shape.size ≡ n → drop n memory ≡ drop n ws → drop n (set memory (get_or memory x 0) (get_or memory y 0)) ≡ drop n ws
   rest_taken n ws size rest = drop-set-lt n memory (get_or memory x 0) (get_or memory y 0) (subst (λ m. get_or memory x 0 < m) size word_below) ∙ rest
 
   -- one note more is taken back
-  pub taken_more : (n : ℕ) (ws image : List ℕ) → log.size ≡ n → drop n memory ≡ drop n ws → undo ws n level (i + 1) (take n memory) ≡ image
+  pub taken_more : (n : ℕ) (ws image : List ℕ) → log.shape.size ≡ n → drop n memory ≡ drop n ws → undo ws n level (i + 1) (take n memory) ≡ image
       → undo ws n level i (take n (set memory (get_or memory x 0) (get_or memory y 0))) ≡ image
   taken_more n ws image size rest left =
       let word : get_or memory x 0 ≡ word_at ws n level i = word_is ∙ ap (λ m. word_at memory m level i) size ∙ cell-rest ws memory n (3 * level + 1) i (omega arith) rest in
@@ -64,6 +45,7 @@ notes_by n d level first first' ws noted ws' noted' same h =
       undone = λ image. h.undone image ∙ ap (undo ws n level (get_or noted level 0)) (same image);
       words = h.words;
       values = h.values;
+      depth = h.depth;
       counts = h.counts;
     }
 
@@ -76,12 +58,9 @@ notes_then n d level first second ws noted ws' noted' ws'' noted'' h g =
       undone = λ image. g.undone image ∙ h.undone (second image);
       words = λ other i ne short. g.words other i ne short ∙ h.words other i ne short;
       values = λ other i ne short. g.values other i ne short ∙ h.values other i ne short;
+      depth = g.depth ∙ h.depth;
       counts = λ other ne. g.counts other ne ∙ h.counts other ne;
     }
-
-pub notes_none : (n d below level : ℕ) (ws noted : List ℕ) → Notes n d below (undo ws n level 0) ws noted ws noted
-notes_none n d below level ws noted =
-    record { image = refl; behind = refl; undone = λ image. refl; words = λ _ _ _ _. refl; values = λ _ _ _ _. refl; counts = λ _ _. refl }
 
 pub handed_more : (n d n' d' below level i w v : ℕ) (ws noted ws' noted' ws'' noted'' : List ℕ) → n' ≡ n → d' ≡ d → level ≢ below → i < n
     → w ≡ word_at ws' n level i → v ≡ value_at ws' n level i → Notes n d below (undo ws n level i) ws noted ws' noted'

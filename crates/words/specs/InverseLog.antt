@@ -1,7 +1,7 @@
 -- What an inverse log's memory means. It is cut into blocks of n words: the present image, and for each level three more. There the level
 -- lists the words that it has noted, in the order in which it noted them, with the value that each had; and for each word of the store,
 -- at which place of that list it stands, if it does.
-use Rattle.std.specs.Prelude.{◌≡◌, ℕ, zero, suc, ◌+◌, ◌*◌, ◌<◌, ◌≢◌, List, [], ◌∷◌, take, drop, slice_index, slice_set}
+use Rattle.std.specs.Prelude.{◌≡◌, ℕ, zero, suc, ◌+◌, ◌*◌, ◌<◌, ◌≢◌, List, [], ◌∷◌, length, take, drop, slice_index, slice_set}
 use Rattle.words.specs.Meaning.{Meaning, Lent}
 
 -- word i of a block
@@ -57,4 +57,5 @@ pub record Notes (n d level : ℕ) (first : List ℕ → List ℕ) (ws noted ws'
   pub undone : (image : List ℕ) → undo ws' n level (slice_index noted' level) image ≡ undo ws n level (slice_index noted level) (first image)
   pub words : (other i : ℕ) → other ≢ level → i < n → word_at ws' n other i ≡ word_at ws n other i
   pub values : (other i : ℕ) → other ≢ level → i < n → value_at ws' n other i ≡ value_at ws n other i
+  pub depth : length noted' ≡ length noted
   pub counts : (other : ℕ) → other ≢ level → slice_index noted' other ≡ slice_index noted other

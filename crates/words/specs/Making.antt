@@ -1,5 +1,5 @@
 -- Which stores are served, and what a making leaves.
-use Rattle.std.specs.Prelude.{◌≡◌, ℕ, ◌*◌, ◌≤◌, List, [], ◌++◌, drop, replicate, Ok, Err, Result}
+use Rattle.std.specs.Prelude.{◌≡◌, ℕ, ◌*◌, ◌≤◌, List, [], ◌++◌, take, drop, replicate, Ok, Err, Result}
 use Rattle.words.specs.declared.store.StoreRefusal.{StoreRefusal}
 use Rattle.words.specs.Refusals.{number}
 use Rattle.words.specs.Meaning.{Meaning}
@@ -15,6 +15,10 @@ pub record Fits (n d each long : ℕ) : Type 0 where
 abbrev pub Tests : ℕ → ℕ → ℕ → ℕ → Result (Unit {0}) StoreRefusal → Type 0
 Tests n d each long (Ok _) = Fits n d each long
 Tests n d each long (Err e) = (number e ≡ 1) × (Fits n d each long → ⊥)
+
+-- the first n words of a memory, and no level
+abbrev pub laid : ℕ → ℕ → List ℕ → Meaning
+laid n d ws = record { limit = d; image = take n ws; saved = [] }
 
 -- n words, all 0, and no level
 abbrev pub fresh : ℕ → ℕ → Meaning

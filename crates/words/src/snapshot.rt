@@ -6,7 +6,7 @@ ghost use Rattle.words.specs.Making.{Tests, Makes};
 ghost use Rattle.words.specs.Snapshot.{width, snapshot_meaning, snapshot_lent};
 
 use crate::memory;
-use crate::memory::LEVELS_MOST;
+use crate::memory::OverMemory;
 use crate::store::{Store, StoreRefusal};
 
 #[derive(Drop)]
@@ -22,10 +22,7 @@ impl<'a> Snapshot<'a> {
     pub fn test(words: &[u32], size: usize, limit: usize) -> Result<(), StoreRefusal>
         ensures { Tests size limit (limit + 1) (length words.now) result }
     {
-        if limit > LEVELS_MOST {
-            return Err(StoreRefusal::Unfit);
-        }
-        memory::test(size, limit, limit + 1, words.len())
+        memory::test::<Self>(words, size, limit)
     }
 
     // The store of `size` words, all 0, or where the test refuses the one of no words that leaves the memory alone.
@@ -33,21 +30,7 @@ impl<'a> Snapshot<'a> {
         ensures makes { Makes size limit (limit + 1) (length words.old) (snapshot_meaning result.words.now result.size result.limit result.depth) words.old result.words.now }
         ensures lender { result.words.ghost_name ≡ words.entry.ghost_name }
     {
-        if limit > LEVELS_MOST || Self::test(words, size, limit).is_err() {
-            return Snapshot {
-                words,
-                size: 0,
-                limit: 2,
-                depth: 0,
-            };
-        }
-        memory::clear(words, size);
-        Snapshot {
-            words,
-            size,
-            limit: limit as u8,
-            depth: 0,
-        }
+        memory::make(words, size, limit)
     }
 
     // N, never more than there is memory for
@@ -66,7 +49,7 @@ impl<'a> Snapshot<'a> {
     }
 }
 
-// Copies `size` words from one part of the memory to another.
+// Copies `size` words from one part of the memory to another: word by word, since the part that is written is lent on.
 fn copy_part(words: &mut [u32], size: usize, from: usize, to: usize)
     requires source { from + size ≤ length words.old }
     requires target { to + size ≤ length words.old }
@@ -93,6 +76,29 @@ fn restore(words: &mut [u32], size: usize, level: u8)
     ensures { words.new ≡ paste words.old 0 (drop ((level + 1) * size) words.old) size }
 {
     copy_part(words, size, (usize::from(level) + 1) * size, 0);
+}
+
+impl<'a> OverMemory<'a> for Snapshot<'a> {
+    ghost each = { λ limit. limit + 1 };
+
+    ghost memory = { λ s. s.words.now };
+
+    fn each(limit: usize) -> usize
+        requires { limit ≤ 8 }
+        ensures each { result ≡ limit + 1 }
+        ensures image { 0 < result }
+    {
+        limit + 1
+    }
+
+    fn over(words: &'a mut [u32], size: usize, limit: usize) -> Snapshot<'a> {
+        Snapshot {
+            words,
+            size,
+            limit: limit as u8,
+            depth: 0,
+        }
+    }
 }
 
 impl Store for Snapshot<'_> {

@@ -6,5 +6,5 @@ use Rattle.editor.proofs.batch.smallest_missing.Given as goal
 -- none of the signals below is one
 abbrev pub invariant-loop-signal : goal.invariant-loop-signal
 invariant-loop-signal g l =
-    Sound l.layout.signals (g.S.Store.model l.store).image
-    → (t : ℕ) → t < l.signal → Missing l.layout.signals (netlist_of l.layout.signals (g.S.Store.model l.store).image) t → ⊥
+    Sound l.board.signals l.board.words.image
+    → (t : ℕ) → t < l.signal → Missing l.board.signals (netlist_of l.board.signals l.board.words.image) t → ⊥

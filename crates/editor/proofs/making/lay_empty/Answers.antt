@@ -1,15 +1,15 @@
-use Rattle.std.proofs.Common.{◌∙◌}
-use Rattle.editor.proofs.Written.{inside_both, empty_laid}
+use Rattle.std.proofs.Common.{ℕ, ◌*◌, ◌≤◌, subst}
+use Rattle.words.specs.Meaning.{size}
+use Rattle.editor.specs.Making.{Seated}
+use Rattle.editor.proofs.Written.{empty_laid}
 use Rattle.editor.proofs.making.lay_empty.Goals as goal
 
-pub returns : goal.returns
-returns g c =
-    let a = g.S.Store.model c.args.store.now in
-    let b = g.S.Store.model c.clear.new.store in
-    let d = g.S.Store.model c.seat_all.new.store in
-    let cleared = c.clear.ensures.clears in record {
-      lays = λ few room. empty_laid c.args.layout.signals a b d cleared c.seat_all.ensures.seats c.seat_all.ensures.long room;
-      inside = inside_both a b d cleared.inside c.seat_all.ensures.inside;
-      long = c.seat_all.ensures.long ∙ cleared.long;
-      behind = c.seat_all.ensures.behind ∙ c.clear.ensures.behind;
-    }
+pub returns-clause-lays : goal.returns-clause-lays
+returns-clause-lays g c =
+    let b = c.args.board.now in
+    let d = c.clear.new.self in
+    let f = c.seat_all.new.board in
+    λ few room.
+    empty_laid b.signals b.words d.words f.words c.clear.ensures.cleared
+    (let P : ℕ → Type 0 = λ k. 5 * k ≤ size d.words → Seated k k d.words.image f.words.image in subst P c.clear.ensures.only.stays.signals c.seat_all.ensures.seats)
+    c.seat_all.ensures.long room

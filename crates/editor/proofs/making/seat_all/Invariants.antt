@@ -1,11 +1,11 @@
 use Rattle.std.proofs.Common.{◌≡◌, ◌*◌, ◌≤◌}
 use Rattle.words.specs.Meaning.{size}
-use Rattle.board.specs.Standing.{Inside}
+use Rattle.board.specs.Stored.{OnlyWords}
 use Rattle.editor.specs.Making.{Seated}
 use Rattle.editor.proofs.making.seat_all.Given as goal
 
 abbrev pub invariant-loop-signal : goal.invariant-loop-signal
 invariant-loop-signal g l =
-    Inside (g.S.Store.model l.initial.store) (g.S.Store.model l.store) × (size (g.S.Store.model l.store) ≡ size (g.S.Store.model l.initial.store))
-    × (5 * l.layout.signals ≤ size (g.S.Store.model l.initial.store) → Seated l.layout.signals l.signal (g.S.Store.model l.initial.store).image (g.S.Store.model l.store).image)
-    × (g.S.Store.lent l.store ≡ g.S.Store.lent l.initial.store)
+    let m = l.initial.board.signals in
+    OnlyWords l.initial.board l.board × (size l.board.words ≡ size l.initial.board.words)
+    × (5 * m ≤ size l.initial.board.words → Seated m l.signal l.initial.board.words.image l.board.words.image)

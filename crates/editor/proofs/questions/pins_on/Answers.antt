@@ -1,21 +1,32 @@
-use Rattle.std.proofs.Common.{◌≡◌, length, arith, rules}
-use Rattle.editor.proofs.Pinned.{got_none, got_more, got_end, got_all}
+use Rattle.std.proofs.Common.{◌≡◌, ◌+◌, ◌++◌, length, get_or, drop, ap, ◌∙◌, arith, rules}
+use Rattle.board.specs.Board.{nets}
+use Rattle.editor.proofs.Pinned.{got_more, got_end, got_all}
 use Rattle.editor.proofs.questions.pins_on.Goals as goal
 
-pub loop-i-init : goal.loop-i-init
-loop-i-init c = got_none c.args.words
+pub loop-word-init : goal.loop-word-init
+loop-word-init c = (ap (λ l. l ++ nets c.args.words) c.new-nets.ensures, ap length c.new-nets.ensures)
 
-pub loop-i-preserved : goal.loop-i-preserved
-loop-i-preserved c =
+pub push-requires : goal.push-requires
+push-requires c =
     let four : length c.args.words ≡ 4 = search rules in
-    got_more c.args.words c.loop-i.nets c.loop-i.i four (omega arith) c.if-word-eq0.false c.loop-i.invariant
+    omega (arith, four, c.loop-word.invariant.1, c.loop-word-test.true)
 
-pub returns-then-word-eq0 : goal.returns-then-word-eq0
-returns-then-word-eq0 c =
+pub loop-word-preserved : goal.loop-word-preserved
+loop-word-preserved c =
     let four : length c.args.words ≡ 4 = search rules in
-    got_end c.args.words c.loop-i.nets c.loop-i.i four (omega arith) c.if-word-eq0.true c.loop-i.invariant
+    let i = c.loop-word.word-index in (
+      ap (λ l. l ++ nets (drop (i + 1) c.args.words)) c.push.ensures.items
+          ∙ got_more c.args.words c.loop-word.nets.items i c.in-Some.net (omega (arith, four, c.loop-word-test.true)) c.in-Some.ensures.0 c.in-Some.ensures.1 c.loop-word.invariant.0,
+      omega (arith, c.loop-word.invariant.1, c.push.ensures.len),
+    )
 
-pub returns : goal.returns
-returns c =
+pub returns-in_default : goal.returns-in_default
+returns-in_default c =
     let four : length c.args.words ≡ 4 = search rules in
-    got_all c.args.words c.loop-i.nets c.loop-i.i four (omega arith) (omega arith) c.loop-i.invariant
+    let none : get_or c.args.words c.loop-word.word-index 0 ≡ 0 = omega (arith, c.in_default.ensures) in
+    got_end c.args.words c.loop-word.nets.items c.loop-word.word-index (omega (arith, four, c.loop-word-test.true)) none c.loop-word.invariant.0
+
+pub returns-after-loop-word : goal.returns-after-loop-word
+returns-after-loop-word c =
+    let four : length c.args.words ≡ 4 = search rules in
+    got_all c.args.words c.loop-word.nets.items c.loop-word.word-index (omega (arith, four, c.loop-word-test.false)) c.loop-word.invariant.0

@@ -1,5 +1,5 @@
 use Rattle.editor.proofs.Pinned.{Got}
 use Rattle.editor.proofs.questions.pins_on.Given as goal
 
-abbrev pub invariant-loop-i : goal.invariant-loop-i
-invariant-loop-i l = Got l.word-items l.nets l.i
+abbrev pub invariant-loop-word : goal.invariant-loop-word
+invariant-loop-word l = Got l.word-items l.nets.items l.word-index

@@ -1,20 +1,12 @@
-use Rattle.std.proofs.Common.{◌≡◌, length, refl, arith, rules}
-use Rattle.std.proofs.lemmas.Bool.{false≢true}
-use Rattle.edits.proofs.Netted.{net-beyond, nets-below, below_more}
+use Rattle.std.proofs.Common.{◌≡◌, leb, Decides, length, take, sym, ap, ◌∙◌, subst, rules}
+use Rattle.std.specs.List.{list_any}
+use Rattle.netlist.specs.Edits.{Beyond}
+use Rattle.edits.proofs.Netted.{any-beyond, take_four}
 use Rattle.edits.proofs.checks.net_beyond.Goals as goal
-
-pub loop-i-init : goal.loop-i-init
-loop-i-init c = λ j lt. absurd (omega arith)
-
-pub returns-then-nets-i : goal.returns-then-nets-i
-returns-then-nets-i c =
-    let four : length c.args.nets ≡ 4 = search rules in
-    (λ _. net-beyond c.args.signals c.args.pins c.args.nets c.loop-i.i four (omega arith) c.if-nets-i.true, λ _. refl)
-
-pub loop-i-preserved : goal.loop-i-preserved
-loop-i-preserved c = below_more c.args.signals c.loop-i.i c.args.nets c.loop-i.invariant c.if-nets-i.false
 
 pub returns : goal.returns
 returns c =
     let four : length c.args.nets ≡ 4 = search rules in
-    (λ e. absurd (false≢true e), λ b. absurd (nets-below c.args.signals c.args.pins c.args.nets c.loop-i.i four (omega arith) c.loop-i.invariant b))
+    let same : take c.min.result c.args.nets ≡ take c.args.pins c.args.nets = ap (λ k. take k c.args.nets) c.min.ensures ∙ take_four c.args.pins c.args.nets four in
+    subst (λ r. Decides r (Beyond c.args.signals (take c.args.pins c.args.nets))) (sym (c.any_beyond.ensures ∙ ap (list_any (λ x. leb c.args.signals x)) same))
+    (any-beyond c.args.signals (take c.args.pins c.args.nets))

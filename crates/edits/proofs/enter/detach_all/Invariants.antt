@@ -1,10 +1,9 @@
-use Rattle.std.proofs.Common.{◌≡◌}
-use Rattle.board.specs.Standing.{Inside}
+use Rattle.board.specs.Stored.{OnlyWords}
 use Rattle.edits.specs.Cells.{Site, Changed, cell_at, as_unwired}
 use Rattle.edits.proofs.enter.detach_all.Given as goal
 
 abbrev pub invariant-loop-i : goal.invariant-loop-i
 invariant-loop-i g l =
-    (Site l.layout.signals (g.S.Store.model l.initial.store).image l.signal →
-    Changed l.layout.signals (g.S.Store.model l.initial.store).image l.signal (as_unwired (cell_at l.layout.signals (g.S.Store.model l.initial.store).image l.signal) l.i) (g.S.Store.model l.store).image)
-    × Inside (g.S.Store.model l.initial.store) (g.S.Store.model l.store) × (g.S.Store.lent l.store ≡ g.S.Store.lent l.initial.store)
+    let m = l.initial.board.signals in
+    let ws = l.initial.board.words.image in
+    (Site m ws l.signal → Changed m ws l.signal (as_unwired (cell_at m ws l.signal) l.i) l.board.words.image) × OnlyWords l.initial.board l.board

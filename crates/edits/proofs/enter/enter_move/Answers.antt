@@ -1,17 +1,19 @@
-use Rattle.std.proofs.Common.{◌<◌, ◌∙◌, arith}
+use Rattle.std.proofs.Common.{◌<◌, arith}
+use Rattle.board.proofs.Writes.{only_words-trans}
+use Rattle.edits.proofs.Carried.{attaches-same}
 use Rattle.edits.proofs.Writing.{moved}
 use Rattle.edits.proofs.enter.enter_move.Goals as goal
 
 pub returns : goal.returns
 returns g c =
-    let m = c.args.layout.signals in
+    let b = c.args.board.now in
     let s = c.args.signal in
-    let ws = (g.S.Store.model c.args.store.now).image in
+    let off = c.release.new.board in
     record {
       enters = λ site four lt.
           let low : s < 1024 = omega (arith, site.below, site.few) in
-          moved m ws s site c.args.pin c.pin_number-number.result c.args.net (g.S.Store.model c.release.new.store).image (g.S.Store.model c.attach.new.store).image
-          four lt (c.pin_number-number.ensures.number low four) c.release.ensures.releases c.attach.ensures.attaches;
-      inside = record { levels = c.attach.ensures.levels ∙ c.release.ensures.inside.levels; limit = c.attach.ensures.limit ∙ c.release.ensures.inside.limit };
-      behind = c.attach.ensures.behind ∙ c.release.ensures.behind;
+          moved b.signals b.words.image s site c.args.pin c.pin_number-number.result c.args.net off.words.image c.attach.new.self.words.image
+          four lt (c.pin_number-number.ensures.number low four) c.release.ensures.releases
+          (attaches-same off.signals b.signals off.words.image c.pin_number-number.result c.args.net c.attach.new.self.words.image c.release.ensures.only.stays.signals c.attach.ensures.attaches);
+      only = only_words-trans b off c.attach.new.self c.release.ensures.only c.attach.ensures.only;
     }

@@ -1,17 +1,16 @@
-use Rattle.std.proofs.Common.{◌∙◌}
+use Rattle.std.proofs.Common.{ℕ, ◌∙◌, subst}
+use Rattle.edits.specs.Puts.{ReadyAll, PutsPins}
 use Rattle.edits.proofs.Whole.{placing}
-use Rattle.edits.proofs.Smallest.{signal-below}
 use Rattle.edits.proofs.make.place.Goals as goal
 
-pub returns : goal.returns
-returns g c =
-    let m = c.args.layout.signals in
-    let ws = (g.S.Store.model c.args.store.now).image in
-    record {
-      places = λ few stands p.
-          placing m ws c.args.edit (g.S.Store.model c.enter.new.store) (g.S.Store.model c.put_all.new.store) c.signal_of.result _ c.put_all.result few stands p
-          (c.enter.ensures.enters few stands p) c.signal_of.ensures (c.puts_of-puts.ensures (signal-below m c.args.edit p.signals)) c.put_all.ensures.puts;
-      inside = record { levels = c.put_all.ensures.inside.levels ∙ c.enter.ensures.inside.levels; limit = c.put_all.ensures.inside.limit ∙ c.enter.ensures.inside.limit };
-      clean = c.put_all.ensures.clean;
-      behind = c.put_all.ensures.behind ∙ c.enter.ensures.behind;
-    }
+pub returns-clause-places : goal.returns-clause-places
+returns-clause-places g c =
+    let b = c.args.board.now in
+    let b₁ = c.enter.new.board in
+    let b₂ = c.put_all.new.board in
+    let on = c.as_slice.result.now in
+    λ few stands p.
+    placing b.signals b.words.image c.args.edit b₁.words b₂.words c.signal.result on c.put_all.result few stands p
+    (c.enter.ensures.enters few stands p) c.signal.ensures (c.as_slice.ensures.value ∙ c.nets_to_put-nets.ensures)
+    (let P : ℕ → Type 0 = λ k. ReadyAll k b₁.words.image c.signal.result on → PutsPins k b₁.words c.signal.result on b₂.words c.put_all.result in
+    subst P c.enter.ensures.only.stays.signals c.put_all.ensures.puts)

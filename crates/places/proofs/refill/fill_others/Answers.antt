@@ -1,87 +1,79 @@
-use Rattle.std.proofs.Common.{◌≡◌, suc, ◌+◌, ◌-◌, ◌*◌, ◌≤◌, length, sym, refl, ap, ◌∙◌, subst, arith}
-use Rattle.std.proofs.lemmas.List.{length_push}
+use Rattle.std.proofs.Common.{◌≡◌, suc, ◌+◌, ◌-◌, ◌*◌, ◌≤◌, length, sym, ap, ◌∙◌, subst, arith}
 use Rattle.board.specs.Layout.{word}
-use Rattle.words.specs.Meaning.{Meaning}
-use Rattle.places.specs.Refill.{Range, Walked, flagged, held}
+use Rattle.board.proofs.Writes.{only_words-refl, only_words-trans, only_words-reworded}
+use Rattle.places.specs.Refill.{Range, Walked, flagged}
 use Rattle.places.proofs.Counting.{told-flagged}
 use Rattle.places.proofs.Filling.{walked_none, walked_holds, walked_writes}
 use Rattle.places.proofs.refill.fill_others.Goals as goal
-use Rattle.places.proofs.refill.fill_others.Goals.{then-moves, else-moves}
+use Rattle.places.proofs.refill.fill_others.Goals.{then-contains, else-contains}
 
 pub loop-place-init : goal.loop-place-init
-loop-place-init g c = (
-  λ range.
-      let flags = c.args.search.now.flags.now in
-      let ws = (g.S.Store.model c.args.store.now).image in
-      let none : c.args.low - c.args.low ≡ 0 = omega arith in
-      subst (λ k. Walked (flagged flags) c.args.layout.signals ws c.args.low k ws c.args.low (held c.args.held.now)) (sym none)
-      (walked_none (flagged flags) c.args.layout.signals ws c.args.low c.args.high range (held c.args.held.now) c.requires.none),
-  omega (arith, c.requires.count),
-  omega arith,
-  ap length c.requires.none ∙ sym c.requires.count,
-  omega (arith, c.requires.count),
-  refl,
-  refl,
-  refl,
-)
+loop-place-init g c =
+    let b = c.args.board.now in
+    let low = c.args.span.low in (
+      λ range.
+          let none : low - low ≡ 0 = omega arith in
+          subst (λ k. Walked (flagged c.args.search.now.flags.now) b.signals b.words.image low k b.words.image low c.new-held.result.items) (sym none)
+          (walked_none (flagged c.args.search.now.flags.now) b.signals b.words.image low c.args.span.high range c.new-held.result.items c.new-held.ensures),
+      omega (arith, ap length c.new-held.ensures),
+      omega arith,
+      omega (arith, ap length c.new-held.ensures),
+      only_words-refl b,
+    )
 
 pub loop-place-preserved : goal.loop-place-preserved
 loop-place-preserved g c =
-    let m = c.args.layout.signals in
-    let ws = (g.S.Store.model c.args.store.now).image in
+    let b = c.args.board.now in
+    let l = c.loop-place.board in
+    let m = b.signals in
+    let ws = b.words.image in
+    let low = c.args.span.low in
+    let high = c.args.span.high in
     let f = flagged c.args.search.now.flags.now in
-    let ws' = (g.S.Store.model c.loop-place.store).image in
-    let read : c.read-signal.result ≡ word ws' (4 * m + c.loop-place.place) = c.read-signal.ensures ∙ ap (word ws') c.holder.ensures in
-    let told = told-flagged c.args.search.now.flags.now c.read-signal.result c.moves.result c.moves.ensures in
-    let inside : Range m ws c.args.low c.args.high → c.loop-place.place ≤ c.args.high =
-    λ range. omega (arith, range.within, range.few, c.loop-place-test.true, c.end_of-place-end.ensures.next (omega (arith, range.within, range.few))) in
-    elim c.if-moves.branch [
-      | then-moves w ↦
-          rw (w.store-is, w.held-is, w.next-is) (
+    let same = c.loop-place.invariant.4.stays.signals in
+    let read : c.read-signal.result ≡ word l.words.image (4 * m + c.loop-place.place) =
+    c.read-signal.ensures ∙ ap (λ k. word l.words.image (4 * k + c.loop-place.place)) same in
+    let told = told-flagged c.args.search.now.flags.now c.read-signal.result c.contains.result c.contains.ensures.flag in
+    let inside : Range m ws low high → c.loop-place.place ≤ high =
+    λ range. omega (arith, range.within, range.few, c.loop-place-test.true, c.end-place-end.ensures.next (omega (arith, range.within, range.few))) in
+    elim c.if-contains.branch [
+      | then-contains w ↦
+          rw (w.board-is, w.held-is, w.next-is) (
             λ range.
-                walked_holds f m ws c.args.low c.args.high range c.loop-place.place c.loop-place.next ws' (held c.loop-place.held)
-                c.loop-place.auto.place (inside range) (c.loop-place.invariant.0 range) c.read-signal.result (held w.push.new.self) read
-                (told ∙ w.if-moves.true) w.push.ensures.one,
-            omega (arith, c.loop-place.invariant.1, w.push.ensures.count),
-            omega (arith, c.loop-place-test.true, c.end_of-place-end.ensures.few),
-            ap length w.push.ensures.one ∙ length_push (held c.loop-place.held) c.read-signal.result
-                ∙ omega (arith, c.loop-place.invariant.3, w.push.ensures.count),
-            omega (arith, c.loop-place.invariant.1, w.push.ensures.count, c.loop-place-test.true, c.end_of-place-end.ensures.few),
-            c.loop-place.invariant.5,
-            c.loop-place.invariant.6,
-            c.loop-place.invariant.7,
-          )
-      | else-moves w ↦
-          rw (w.store-is, w.held-is, w.next-is) (
-            λ range.
-                subst (λ words. Walked f m ws c.args.low (c.loop-place.place + 1 - c.args.low) words (c.loop-place.next + 1) (held c.loop-place.held))
-                (sym (ap (λ (t : Meaning). t.image) w.write.ensures.writes))
-                (walked_writes f m ws c.args.low c.args.high range c.loop-place.place c.loop-place.next ws' (held c.loop-place.held)
-                c.loop-place.auto.place (inside range) (c.loop-place.invariant.0 range) c.read-signal.result w.holder-else-moves.result read
-                (told ∙ w.if-moves.false) w.holder-else-moves.ensures),
-            omega (arith, c.loop-place.invariant.1),
-            omega (arith, c.loop-place-test.true, c.end_of-place-end.ensures.few),
-            c.loop-place.invariant.3,
+                walked_holds f m ws low high range c.loop-place.place c.loop-place.next l.words.image c.loop-place.held.items
+                c.loop-place.auto.place (inside range) (c.loop-place.invariant.0 range) c.read-signal.result w.push.new.self.items read
+                (told ∙ w.if-contains.true) w.push.ensures.items,
+            omega (arith, c.loop-place.invariant.1, w.push.ensures.len),
+            omega (arith, c.loop-place-test.true, c.end-place-end.ensures.few),
+            omega (arith, c.loop-place.invariant.1, w.push.ensures.len, c.loop-place-test.true, c.end-place-end.ensures.few),
             c.loop-place.invariant.4,
-            ap (λ (t : Meaning). t.saved) w.write.ensures.writes ∙ c.loop-place.invariant.5,
-            ap (λ (t : Meaning). t.limit) w.write.ensures.writes ∙ c.loop-place.invariant.6,
-            w.write.ensures.behind ∙ c.loop-place.invariant.7,
+          )
+      | else-contains w ↦
+          rw (w.board-is, w.held-is, w.next-is) (
+            λ range.
+                subst (λ words. Walked f m ws low (c.loop-place.place + 1 - low) words (c.loop-place.next + 1) c.loop-place.held.items)
+                (sym (ap (λ x. x.words.image) w.write.ensures))
+                (walked_writes f m ws low high range c.loop-place.place c.loop-place.next l.words.image c.loop-place.held.items
+                c.loop-place.auto.place (inside range) (c.loop-place.invariant.0 range) c.read-signal.result (4 * l.signals + c.loop-place.next) read
+                (told ∙ w.if-contains.false) (ap (λ k. 4 * k + c.loop-place.next) same)),
+            omega (arith, c.loop-place.invariant.1),
+            omega (arith, c.loop-place-test.true, c.end-place-end.ensures.few),
+            c.loop-place.invariant.3,
+            only_words-trans b l w.write.new.self c.loop-place.invariant.4 (only_words-reworded l w.write.new.self _ w.write.ensures),
           )
     ]
 
 pub returns : goal.returns
 returns g c =
+    let b = c.args.board.now in
     record {
       walked = λ range.
-          let next = c.end_of-place-end.ensures.next (omega (arith, range.within, range.few)) in
-          let top : c.loop-place.place ≡ suc c.args.high =
+          let next = c.end-place-end.ensures.next (omega (arith, range.within, range.few)) in
+          let top : c.loop-place.place ≡ suc c.args.span.high =
           omega (arith, next, c.loop-place-test.false, c.loop-place.auto.place-end (omega (arith, next, range.upward))) in
-          subst (λ p. Walked (flagged c.args.search.now.flags.now) c.args.layout.signals (g.S.Store.model c.args.store.now).image c.args.low (p - c.args.low)
-          (g.S.Store.model c.loop-place.store).image c.loop-place.next (held c.loop-place.held)) top (c.loop-place.invariant.0 range);
-      long = c.loop-place.invariant.3;
-      few = c.loop-place.invariant.4;
+          subst (λ p. Walked (flagged c.args.search.now.flags.now) b.signals b.words.image c.args.span.low (p - c.args.span.low)
+          c.loop-place.board.words.image c.loop-place.next c.loop-place.held.items) top (c.loop-place.invariant.0 range);
+      few = c.loop-place.invariant.3;
       room = omega (arith, c.loop-place.invariant.1, c.loop-place.invariant.2);
-      levels = c.loop-place.invariant.5;
-      limit = c.loop-place.invariant.6;
-      behind = c.loop-place.invariant.7;
+      only = c.loop-place.invariant.4;
     }

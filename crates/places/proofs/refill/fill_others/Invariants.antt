@@ -1,16 +1,15 @@
 use Rattle.std.proofs.Common.{◌≡◌, ◌+◌, ◌-◌, ◌<◌, ◌≤◌, length}
-use Rattle.places.specs.Refill.{Range, Walked, held, flagged}
+use Rattle.board.specs.Stored.{OnlyWords}
+use Rattle.places.specs.Refill.{Range, Walked, flagged}
 use Rattle.places.proofs.refill.fill_others.Given as goal
 
 abbrev pub invariant-loop-place : goal.invariant-loop-place
 invariant-loop-place g l =
-    (Range l.layout.signals (g.S.Store.model l.initial.store).image l.low l.high →
-    Walked (flagged l.search.flags.now) l.layout.signals (g.S.Store.model l.initial.store).image l.low (l.place - l.low)
-    (g.S.Store.model l.store).image l.next (held l.held))
-    × (l.next + l.held.count ≡ l.place)
+    let m = l.initial.board.signals in
+    let ws = l.initial.board.words.image in
+    let low = l.fn.span.low in
+    (Range m ws low l.fn.span.high → Walked (flagged l.search.flags.now) m ws low (l.place - low) l.board.words.image l.next l.held.items)
+    × (l.next + length l.held.items ≡ l.place)
     × (l.place < 4294967296)
-    × (length (held l.held) ≡ l.held.count)
-    × (l.held.count ≤ 1024)
-    × ((g.S.Store.model l.store).saved ≡ (g.S.Store.model l.initial.store).saved)
-    × ((g.S.Store.model l.store).limit ≡ (g.S.Store.model l.initial.store).limit)
-    × (g.S.Store.lent l.store ≡ g.S.Store.lent l.initial.store)
+    × (length l.held.items ≤ 1024)
+    × OnlyWords l.initial.board l.board

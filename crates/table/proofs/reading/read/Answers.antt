@@ -3,7 +3,7 @@ use Rattle.std.proofs.lemmas.Result.{err_from_is_err_and}
 use Rattle.table.specs.declared.fault.ReadFault.TheVariants.{OfLine}
 use Rattle.table.specs.Reading.{line_of}
 use Rattle.table.proofs.Exact.{reads_table}
-use Rattle.table.proofs.Whole.{taken_more, taken-stops, taken-all}
+use Rattle.table.proofs.Whole.{taken-stops, taken-all}
 use Rattle.table.proofs.reading.read.Goals as goal
 
 pub returns-in_err-line : goal.returns-in_err-line
@@ -15,12 +15,6 @@ returns-in_err-line c =
     let fault = c.in_err-line.field-0.0 in
     let stops = taken-stops line_of lines c.args.pins c.loop-line.line-index c.loop-line.cover inv _ c.line.new.self.pins fault c.loop-line-test.true told.same.0 (told.takes _ inv.read) in
     rw (p.1, p.2) (record { reads = (inv.few, stops); back = reads_table c.args.pins (map line_of lines) (Err (OfLine fault)) (inv.few, stops) })
-
-pub loop-line-preserved : goal.loop-line-preserved
-loop-line-preserved c =
-    let told = c.in_ok-line.ensures in
-    let inv = c.loop-line.invariant in
-    taken_more line_of c.args.lines.now c.args.pins c.loop-line.line-index c.loop-line.cover inv _ c.line.new.self c.loop-line-test.true told.same.0 (told.takes _ inv.read).2
 
 pub returns : goal.returns
 returns c =

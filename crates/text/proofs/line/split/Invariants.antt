@@ -1,10 +1,8 @@
-use Rattle.std.proofs.Common.{◌-◌, map, length, vec_items}
-use Rattle.text.specs.Words.{spelled}
-use Rattle.text.proofs.Splits.{Left}
+use Rattle.std.proofs.Common.{◌≡◌, ◌++◌, map, vec_items}
+use Rattle.text.specs.Words.{spelled, words, left_words}
 use Rattle.text.proofs.line.split.Given as goal
 
-abbrev pub invariant-loop-words : goal.invariant-loop-words
-invariant-loop-words g l = Left g.T.Text.rules l.line l.place l.bytes l.at (map spelled (vec_items l.words))
-
-abbrev pub decreases-loop-words : goal.decreases-loop-words
-decreases-loop-words g l = length l.bytes - l.at
+abbrev pub invariant-loop-word : goal.invariant-loop-word
+invariant-loop-word g l =
+    map spelled (vec_items l.words) ++ left_words g.T.Text.rules l.word-iterator.at.line l.word-iterator.at.place l.word-iterator.rest
+    ≡ words g.T.Text.rules l.fn.line.at.line l.fn.line.at.place l.fn.line.bytes.now

@@ -15,7 +15,7 @@ loop-all-preserved g c =
     let k = g.T.Text.rules in
     let was = c.loop-all.reader in
     let is = c.next_line.new.self in
-    let old = left k was.limit was.text.now was.place was.line in
-    let new = left k is.limit is.text.now is.place is.line in
+    let old = left k was.limit was.text.now was.at.place was.at.line in
+    let new = left k is.limit is.text.now is.at.place is.at.line in
     let gave = gives_some old new c.in_ok-line.field-0 c.in-Some.line c.in-Some.is c.in_ok-line.ensures.gives in
     reads_more _ old new (vec_items c.loop-all.all) _ c.in-Some.line c.loop-all.invariant gave c.in_ok-push.ensures.items

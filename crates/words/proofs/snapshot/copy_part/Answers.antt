@@ -1,10 +1,6 @@
-use Rattle.std.proofs.Common.{drop, arith}
-use Rattle.std.proofs.lemmas.List.Edits.{paste_none}
+use Rattle.std.proofs.Common.{arith}
 use Rattle.words.proofs.Copies.{copy_more}
 use Rattle.words.proofs.snapshot.copy_part.Goals as goal
-
-pub loop-i-init : goal.loop-i-init
-loop-i-init c = paste_none c.args.words.now c.args.to (drop c.args.from c.args.words.now)
 
 pub loop-i-preserved : goal.loop-i-preserved
 loop-i-preserved c =

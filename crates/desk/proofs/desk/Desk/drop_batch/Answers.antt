@@ -1,6 +1,5 @@
-use Rattle.std.proofs.Common.{sym, subst, ap}
+use Rattle.std.proofs.Common.{sym, subst}
 use Rattle.editor.specs.declared.call.Call.TheVariants.{Drop}
-use Rattle.editor.specs.Shown.{shown_of}
 use Rattle.desk.proofs.Holding.{holds_by}
 use Rattle.desk.proofs.Playing.{plays, closed_at_hand, drops_without}
 use Rattle.desk.specs.Plays.{Plays}
@@ -8,7 +7,7 @@ use Rattle.desk.proofs.desk.Desk.drop_batch.Goals as goal
 
 pub invariant_of-self-in-Some : goal.invariant_of-self-in-Some
 invariant_of-self-in-Some g c =
-    holds_by _ _ _ _ Drop _ _ _ c.drop_batch.ensures.signals c.drop_batch.ensures.idle c.drop_batch.ensures.steps
+    holds_by _ _ _ _ Drop _ _ _ c.drop_batch.ensures.called.stays.signals c.drop_batch.ensures.called.idle c.drop_batch.ensures.called.steps
     (closed_at_hand Drop _ _ c.in-Some.ticket _ (λ some none. (some, none)) c.in-Some.ensures.value c.closed.ensures.hand c.drop_batch.ensures.back)
     c.self.invariant
 
@@ -19,6 +18,6 @@ returns-in-None-clause-plays g c =
 pub returns-in-Some-clause-plays : goal.returns-in-Some-clause-plays
 returns-in-Some-clause-plays g c =
     subst (Plays _ Drop _) (sym c.closed.ensures.reply)
-    (plays _ _ _ Drop _ c.self.view_is c.drop_batch.ensures.idle c.drop_batch.ensures.steps c.drop_batch.ensures.signals c.drop_batch.ensures.behind (ap shown_of c.drop_batch.ensures.shown)
+    (plays _ _ _ Drop _ c.self.view_is c.drop_batch.ensures.called.idle c.drop_batch.ensures.called.steps c.drop_batch.ensures.called.stays.signals c.drop_batch.ensures.called.stays.behind c.drop_batch.ensures.shown
     (closed_at_hand Drop _ _ c.in-Some.ticket _ (λ some none. (some, none)) c.in-Some.ensures.value c.closed.ensures.hand c.drop_batch.ensures.back)
     c.self.invariant)

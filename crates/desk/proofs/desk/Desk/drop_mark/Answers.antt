@@ -1,13 +1,12 @@
-use Rattle.std.proofs.Common.{refl, ap}
+use Rattle.std.proofs.Common.{refl}
 use Rattle.editor.specs.declared.call.Call.TheVariants.{DropMark}
-use Rattle.editor.specs.Shown.{shown_of}
 use Rattle.desk.proofs.Holding.{holds_by}
 use Rattle.desk.proofs.Playing.{plays, stays_at_hand}
 use Rattle.desk.proofs.desk.Desk.drop_mark.Goals as goal
 
 pub invariant_of-self : goal.invariant_of-self
-invariant_of-self g c = holds_by _ _ _ _ DropMark _ _ _ c.drop_mark.ensures.signals c.drop_mark.ensures.idle c.drop_mark.ensures.steps (stays_at_hand DropMark _ _ refl) c.self.invariant
+invariant_of-self g c = holds_by _ _ _ _ DropMark _ _ _ c.drop_mark.ensures.called.stays.signals c.drop_mark.ensures.called.idle c.drop_mark.ensures.called.steps (stays_at_hand DropMark _ _ refl) c.self.invariant
 
 pub returns : goal.returns
 returns g c =
-    plays _ _ _ DropMark _ c.self.view_is c.drop_mark.ensures.idle c.drop_mark.ensures.steps c.drop_mark.ensures.signals c.drop_mark.ensures.behind (ap shown_of c.drop_mark.ensures.shown) (stays_at_hand DropMark _ _ refl) c.self.invariant
+    plays _ _ _ DropMark _ c.self.view_is c.drop_mark.ensures.called.idle c.drop_mark.ensures.called.steps c.drop_mark.ensures.called.stays.signals c.drop_mark.ensures.called.stays.behind c.drop_mark.ensures.shown (stays_at_hand DropMark _ _ refl) c.self.invariant

@@ -1,6 +1,5 @@
-use Rattle.std.proofs.Common.{sym, subst, ap}
+use Rattle.std.proofs.Common.{sym, subst}
 use Rattle.editor.specs.declared.call.Call.TheVariants.{Keep}
-use Rattle.editor.specs.Shown.{shown_of}
 use Rattle.desk.proofs.Holding.{holds_by}
 use Rattle.desk.proofs.Playing.{plays, closed_at_hand, keeps_without}
 use Rattle.desk.specs.Plays.{Plays}
@@ -8,7 +7,7 @@ use Rattle.desk.proofs.desk.Desk.keep.Goals as goal
 
 pub invariant_of-self-in-Some : goal.invariant_of-self-in-Some
 invariant_of-self-in-Some g c =
-    holds_by _ _ _ _ Keep _ _ _ c.keep.ensures.signals c.keep.ensures.idle c.keep.ensures.steps
+    holds_by _ _ _ _ Keep _ _ _ c.keep.ensures.called.stays.signals c.keep.ensures.called.idle c.keep.ensures.called.steps
     (closed_at_hand Keep _ _ c.in-Some.ticket _ (λ some none. (some, none)) c.in-Some.ensures.value c.closed.ensures.hand c.keep.ensures.back)
     c.self.invariant
 
@@ -19,6 +18,6 @@ returns-in-None-clause-plays g c =
 pub returns-in-Some-clause-plays : goal.returns-in-Some-clause-plays
 returns-in-Some-clause-plays g c =
     subst (Plays _ Keep _) (sym c.closed.ensures.reply)
-    (plays _ _ _ Keep _ c.self.view_is c.keep.ensures.idle c.keep.ensures.steps c.keep.ensures.signals c.keep.ensures.behind (ap shown_of c.keep.ensures.shown)
+    (plays _ _ _ Keep _ c.self.view_is c.keep.ensures.called.idle c.keep.ensures.called.steps c.keep.ensures.called.stays.signals c.keep.ensures.called.stays.behind c.keep.ensures.shown
     (closed_at_hand Keep _ _ c.in-Some.ticket _ (λ some none. (some, none)) c.in-Some.ensures.value c.closed.ensures.hand c.keep.ensures.back)
     c.self.invariant)

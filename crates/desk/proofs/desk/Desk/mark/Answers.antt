@@ -1,13 +1,12 @@
-use Rattle.std.proofs.Common.{refl, ap}
+use Rattle.std.proofs.Common.{refl}
 use Rattle.editor.specs.declared.call.Call.TheVariants.{Mark}
-use Rattle.editor.specs.Shown.{shown_of}
 use Rattle.desk.proofs.Holding.{holds_by}
 use Rattle.desk.proofs.Playing.{plays, stays_at_hand}
 use Rattle.desk.proofs.desk.Desk.mark.Goals as goal
 
 pub invariant_of-self : goal.invariant_of-self
-invariant_of-self g c = holds_by _ _ _ _ Mark _ _ _ c.mark.ensures.signals c.mark.ensures.idle c.mark.ensures.steps (stays_at_hand Mark _ _ refl) c.self.invariant
+invariant_of-self g c = holds_by _ _ _ _ Mark _ _ _ c.mark.ensures.called.stays.signals c.mark.ensures.called.idle c.mark.ensures.called.steps (stays_at_hand Mark _ _ refl) c.self.invariant
 
 pub returns : goal.returns
 returns g c =
-    plays _ _ _ Mark _ c.self.view_is c.mark.ensures.idle c.mark.ensures.steps c.mark.ensures.signals c.mark.ensures.behind (ap shown_of c.mark.ensures.shown) (stays_at_hand Mark _ _ refl) c.self.invariant
+    plays _ _ _ Mark _ c.self.view_is c.mark.ensures.called.idle c.mark.ensures.called.steps c.mark.ensures.called.stays.signals c.mark.ensures.called.stays.behind c.mark.ensures.shown (stays_at_hand Mark _ _ refl) c.self.invariant

@@ -1,30 +1,19 @@
-use Rattle.std.proofs.Common.{◌≡◌, ℕ, Ok, Err, refl, arith}
+use Rattle.std.proofs.Common.{Ok, Err, sym, ap, ◌∙◌, subst}
+use Rattle.std.proofs.lemmas.Result.{err_from_is_err_and}
 use Rattle.editor.specs.declared.call.Call.TheVariants.{Begin}
-use Rattle.editor.proofs.Stepping.{idle_never, steps_by}
+use Rattle.editor.specs.Steps.{Called, begun}
+use Rattle.editor.proofs.Calling.{called_by}
 use Rattle.editor.proofs.editor.Editor.begin.Goals as goal
 
-pub returns-in-Ok : goal.returns-in-Ok
-returns-in-Ok g c =
-    let m = c.args.self.now.signals in
-    let a = g.S.Store.model c.args.self.now.store in
-    let a' = g.S.Store.model c.open_batch.new.store in
-    record {
-      steps = steps_by m a Begin a' (Ok 0) (λ e q. let z : ◌≡◌ {A = ℕ} 0 1 = cc in absurd (omega arith)) (λ two _. c.in-Ok.ensures.replies m two);
-      idle = idle_never m a Begin a' (Ok 0) c.if-self-eq0.false;
-      signals = refl;
-      behind = c.open_batch.ensures.behind;
-      shown = refl;
-    }
+pub returns-in_err-open_batch-clause-called : goal.returns-in_err-open_batch-clause-called
+returns-in_err-open_batch-clause-called g c =
+    let b = c.args.self.now.board in
+    let b' = c.open_batch.new.board in
+    let (e, is, same) = err_from_is_err_and c.from_residual-in_err-open_batch.result c.from_residual-in_err-open_batch.ensures.1 in
+    subst (λ r. Called b Begin b' (begun r)) (sym (is ∙ ap Err same))
+    (called_by b b' Begin (Err c.in_err-open_batch.field-0.0) tt c.in_ok-serves.ensures (λ two _. c.in_err-open_batch.ensures.replies b.signals two) c.in_err-open_batch.ensures.stays)
 
-pub returns-in-Err : goal.returns-in-Err
-returns-in-Err g c =
-    let m = c.args.self.now.signals in
-    let a = g.S.Store.model c.args.self.now.store in
-    let a' = g.S.Store.model c.open_batch.new.store in
-    record {
-      steps = steps_by m a Begin a' (Err c.in-Err.refusal) (λ e q. let z : ◌≡◌ {A = ℕ} 0 1 = cc in absurd (omega arith)) (λ two _. c.in-Err.ensures.replies m two);
-      idle = idle_never m a Begin a' (Err c.in-Err.refusal) c.if-self-eq0.false;
-      signals = refl;
-      behind = c.open_batch.ensures.behind;
-      shown = refl;
-    }
+pub returns-clause-called : goal.returns-clause-called
+returns-clause-called g c =
+    let b = c.args.self.now.board in
+    called_by b c.open_batch.new.board Begin (Ok 0) tt c.in_ok-serves.ensures (λ two _. c.in_ok-open_batch.ensures.replies b.signals two) c.in_ok-open_batch.ensures.stays

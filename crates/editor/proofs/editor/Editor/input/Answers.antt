@@ -1,21 +1,8 @@
-use Rattle.std.proofs.Common.{refl}
 use Rattle.netlist.specs.declared.edit.Edit.TheVariants.{Input}
-use Rattle.editor.specs.declared.call.Call.TheVariants.{Make}
-use Rattle.editor.specs.Shown.{shown_of}
-use Rattle.editor.proofs.Stepping.{idle_never, steps_make, shows_early}
+use Rattle.editor.proofs.Calling.{edited_early}
 use Rattle.editor.proofs.editor.Editor.input.Goals as goal
 
 pub returns : goal.returns
 returns g c =
-    let m = c.args.self.now.signals in
-    let l = c.layout-layout.result.signals in
-    let a = g.S.Store.model c.args.self.now.store in
-    let a' = g.S.Store.model c.add_input.new.store in
-    record {
-      steps = steps_make l m a (Input c.args.signal) a' c.add_input.result c.layout-layout.ensures c.add_input.ensures.makes;
-      idle = idle_never m a (Make (Input c.args.signal)) a' c.add_input.result c.if-self-eq0.false;
-      signals = refl;
-      behind = c.add_input.ensures.behind;
-      shows = shows_early l m a (Input c.args.signal) c.add_input.result (shown_of c.clear.new.self) c.layout-layout.ensures c.add_input.ensures.early c.clear.ensures;
-      hidden = λ _. c.clear.ensures;
-    }
+    edited_early c.args.self.now.board c.add_input.new.board (Input c.args.signal) c.add_input.result c.clear.new.self c.in_ok-serves.ensures
+    c.add_input.ensures.makes c.add_input.ensures.early c.clear.ensures c.add_input.ensures.stays

@@ -1,8 +1,15 @@
-use Rattle.reach.specs.Listed.{Walking}
+use Rattle.std.proofs.Common.{◌≡◌, ◌+◌, ◌≤◌, [], ◌++◌, length, get_or}
+use Rattle.reach.specs.Listed.{listed, told_by}
+use Rattle.reach.proofs.Listed.{left}
 use Rattle.reach.proofs.queue.Queue.path.Given as goal
 
-abbrev pub invariant-loop-teller : goal.invariant-loop-teller
-invariant-loop-teller l = Walking l.self l.place l.at l.path
+-- what is walked so far, then the trail that is left, is the trail of the place
+abbrev pub invariant-loop-next : goal.invariant-loop-next
+invariant-loop-next l =
+    record {
+      joins : l.numbers.items ++ told_by l.next (listed l.self) ≡ get_or (listed l.self) l.place [];
+      room : length l.numbers.items + left l.next ≤ l.place + 1;
+    }
 
-abbrev pub decreases-loop-teller : goal.decreases-loop-teller
-decreases-loop-teller l = l.at
+abbrev pub decreases-loop-next : goal.decreases-loop-next
+decreases-loop-next l = left l.next

@@ -1,40 +1,29 @@
-use Rattle.std.proofs.Common.{◌≡◌, ◌+◌, ◌-◌, ◌*◌, ◌<◌, get_or, take, ap, subst, arith}
+use Rattle.std.proofs.Common.{◌≡◌, ◌+◌, ◌-◌, ◌<◌, length, get_or, take, ap, subst, arith}
+use Rattle.arrayvec.specs.ArrayVec.{ArrayVec}
+use Rattle.words.specs.declared.inverse_log.Shape.{Shape}
 use Rattle.words.specs.InverseLog.{undo}
-use Rattle.words.proofs.Steps.{note_within, owed_taken, rest_taken, taken_more}
+use Rattle.words.proofs.Steps.{rest_taken, taken_more}
 use Rattle.words.proofs.inverse_log.InverseLog.undo_notes.Goals as goal
-
--- the note at hand is one of its level
-pub bounds-self-cell : goal.bounds-self-cell
-bounds-self-cell c =
-    let used : c.args.level < c.loop-i.self.depth = omega arith in
-    let noted : c.loop-i.i - 1 < get_or c.loop-i.self.noted c.args.level 0 = omega (arith, ap (λ xs. get_or xs c.args.level 0) c.loop-i.invariant.5) in
-    note_within c.loop-i.self (3 * c.args.level + 1) c.args.level (c.loop-i.i - 1) c.cell.result used noted (omega arith) c.cell.ensures
-
-pub bounds-self-cell-in-loop-i : goal.bounds-self-cell-in-loop-i
-bounds-self-cell-in-loop-i c =
-    let used : c.args.level < c.loop-i.self.depth = omega arith in
-    let noted : c.loop-i.i - 1 < get_or c.loop-i.self.noted c.args.level 0 = omega (arith, ap (λ xs. get_or xs c.args.level 0) c.loop-i.invariant.5) in
-    note_within c.loop-i.self (3 * c.args.level + 2) c.args.level (c.loop-i.i - 1) c.cell-in-loop-i.result used noted (omega arith) c.cell-in-loop-i.ensures
-
-pub invariant_of-self : goal.invariant_of-self
-invariant_of-self c =
-    let used : c.args.level < c.loop-i.self.depth = omega arith in
-    let noted : c.loop-i.i - 1 < get_or c.loop-i.self.noted c.args.level 0 = omega (arith, ap (λ xs. get_or xs c.args.level 0) c.loop-i.invariant.5) in
-    owed_taken c.loop-i.self c.args.level (c.loop-i.i - 1) c.cell.result c.cell-in-loop-i.result used noted c.cell.ensures c.cell-in-loop-i.ensures
 
 pub loop-i-preserved : goal.loop-i-preserved
 loop-i-preserved c =
-    let ws = c.args.self.now.words.now in
-    let n = c.args.self.now.size in
-    let used : c.args.level < c.loop-i.self.depth = omega arith in
-    let noted : c.loop-i.i - 1 < get_or c.loop-i.self.noted c.args.level 0 = omega (arith, ap (λ xs. get_or xs c.args.level 0) c.loop-i.invariant.5) in
+    let log = c.args.self.now in
+    let now = c.loop-i.self in
+    let so_far = c.loop-i.invariant in
+    let size = ap (λ (s : Shape). s.size) so_far.shape in
+    let depth = ap (λ (v : ArrayVec _). length v.items) so_far.noted in
+    let count = ap (λ (v : ArrayVec _). get_or v.items c.args.level 0) so_far.noted in
+    let counted = ap (λ xs. get_or xs c.args.level 0) c.deref.ensures.0 in
+    let used : c.args.level < length now.noted.items = omega (arith, depth) in
+    let noted : c.loop-i.i - 1 < get_or now.noted.items c.args.level 0 = omega (arith, count, counted) in
     let last : c.loop-i.i ≡ c.loop-i.i - 1 + 1 = omega arith in
-    let left = subst (λ m. undo ws n c.args.level m (take n c.loop-i.self.words.now) ≡ undo ws n c.args.level (get_or c.args.self.now.noted c.args.level 0) (take n ws)) last c.loop-i.invariant.0 in (
-      taken_more c.loop-i.self c.args.level (c.loop-i.i - 1) c.cell.result c.cell-in-loop-i.result used noted c.cell.ensures c.cell-in-loop-i.ensures n ws _ c.loop-i.invariant.2 c.loop-i.invariant.1 left,
-      rest_taken c.loop-i.self c.args.level (c.loop-i.i - 1) c.cell.result c.cell-in-loop-i.result used noted c.cell.ensures c.cell-in-loop-i.ensures n ws c.loop-i.invariant.2 c.loop-i.invariant.1,
-      c.loop-i.invariant.2,
-      c.loop-i.invariant.3,
-      c.loop-i.invariant.4,
-      c.loop-i.invariant.5,
-      c.loop-i.invariant.6,
-    )
+    let left =
+    subst (λ m. undo log.words.now log.shape.size c.args.level m (take log.shape.size now.words.now) ≡ undo log.words.now log.shape.size c.args.level (get_or log.noted.items c.args.level 0) (take log.shape.size log.words.now))
+    last so_far.image in
+    record {
+      image = taken_more now c.args.level (c.loop-i.i - 1) c.cell.result c.cell-in-loop-i.result used noted c.cell.ensures c.cell-in-loop-i.ensures log.shape.size log.words.now _ size so_far.rest left;
+      rest = rest_taken now c.args.level (c.loop-i.i - 1) c.cell.result c.cell-in-loop-i.result used noted c.cell.ensures c.cell-in-loop-i.ensures log.shape.size log.words.now size so_far.rest;
+      shape = so_far.shape;
+      noted = so_far.noted;
+      lender = so_far.lender;
+    }

@@ -1,22 +1,14 @@
-use Rattle.std.proofs.Common.{refl, arith}
-use Rattle.words.proofs.Logs.{opens, opens_none, owed_open}
-use Rattle.words.proofs.Noting.{sound_of}
+use Rattle.std.proofs.Common.{◌≡◌, length, refl, arith}
+use Rattle.words.proofs.Logs.{opens, opens_none}
 use Rattle.words.proofs.inverse_log.InverseLogStore.open_level.Goals as goal
 
-pub returns-then-self : goal.returns-then-self
-returns-then-self c =
-    record {
-      opens = (refl, opens_none c.args.self.now.words.now c.args.self.now.size c.args.self.now.limit c.args.self.now.depth c.args.self.now.noted (sound_of c.args.self.now) (omega arith), refl);
-      behind = refl;
-    }
+pub returns-then-len-self-clause-opens : goal.returns-then-len-self-clause-opens
+returns-then-len-self-clause-opens c =
+    let self = c.args.self.now in
+    let full : self.shape.limit ≡ length self.noted.items = omega (arith, self.shallow, c.len.ensures.value) in
+    (refl, opens_none self full, refl)
 
-pub invariant_of-self : goal.invariant_of-self
-invariant_of-self c =
-    owed_open c.args.self.now.words.now c.args.self.now.size c.args.self.now.limit c.args.self.now.depth c.args.self.now.noted (sound_of c.args.self.now) (omega arith) (omega arith)
-
-pub returns : goal.returns
-returns c =
-    record {
-      opens = opens c.args.self.now.words.now c.args.self.now.size c.args.self.now.limit c.args.self.now.depth c.args.self.now.noted (sound_of c.args.self.now) (omega arith) (omega arith);
-      behind = refl;
-    }
+pub returns-clause-opens : goal.returns-clause-opens
+returns-clause-opens c =
+    let self = c.args.self.now in
+    opens self c.push.new.self.items c.push.ensures.items (omega (arith, c.len.ensures.value))

@@ -1,7 +1,7 @@
 use Rattle.std.proofs.Common.{set, refl, ◌∙◌, arith}
 use Rattle.std.proofs.lemmas.List.{drop-set-lt}
-use Rattle.words.proofs.Logs.{sets, same_log, same_lent, lent_rest}
-use Rattle.words.proofs.Noting.{sound_of}
+use Rattle.words.specs.InverseLog.{log_meaning, log_lent}
+use Rattle.words.proofs.Logs.{sets, lent_rest}
 use Rattle.words.proofs.inverse_log.InverseLogStore.set.Goals as goal
 
 pub returns : goal.returns
@@ -9,13 +9,13 @@ returns c =
     let before = c.args.self.now in
     let after = c.remember.new.self in
     let h = c.remember.ensures in
+    let ws = set after.words.now c.args.at c.args.word in
     let told =
-    sets before.words.now before.size before.limit before.depth before.noted (sound_of before)
-    after.words.now after.noted c.args.at c.args.word (omega arith) h.image (h.saved c.args.word) in
+    sets before after.words.now after.noted.items c.args.at c.args.word (omega arith) h.image (h.saved c.args.word) in
     record {
-      sets = (told.0, same_log (set after.words.now c.args.at c.args.word) _ _ _ _ _ _ after.noted h.size h.limit h.depth ∙ told.1);
+      sets = (told.0, (λ i. log_meaning ws (h.shape i).size (h.shape i).limit (h.depth i) after.noted.items) ∙ told.1);
       behind =
-          same_lent after.words.ghost_name (set after.words.now c.args.at c.args.word) _ _ _ _ h.size h.limit
-          ∙ lent_rest _ _ after.words.now (set after.words.now c.args.at c.args.word) before.size before.limit refl (drop-set-lt before.size after.words.now c.args.at c.args.word (omega arith))
+          (λ i. log_lent after.words.ghost_name ws (h.shape i).size (h.shape i).limit)
+          ∙ lent_rest _ _ after.words.now ws before.shape.size before.shape.limit refl (drop-set-lt before.shape.size after.words.now c.args.at c.args.word (omega arith))
           ∙ h.lent;
     }

@@ -1,10 +1,8 @@
-use Rattle.std.proofs.Common.{◌-◌, refl, arith}
+use Rattle.std.proofs.Common.{◌-◌, arith}
 use Rattle.words.proofs.Shots.{keeps}
 use Rattle.words.proofs.snapshot.SnapshotStore.keep_level.Goals as goal
 
-pub returns : goal.returns
-returns c =
-    record {
-      keeps = keeps c.args.self.now.words.now c.args.self.now.size c.args.self.now.limit c.args.self.now.depth (c.open_levels-depth.result - 1) (omega arith);
-      behind = refl;
-    }
+pub returns-clause-keeps : goal.returns-clause-keeps
+returns-clause-keeps c =
+    let self = c.args.self.now in
+    keeps self.words.now self.size self.limit self.depth (c.open_levels-depth.result - 1) (omega arith)

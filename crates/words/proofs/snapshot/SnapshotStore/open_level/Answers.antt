@@ -1,26 +1,21 @@
 use Rattle.std.proofs.Common.{◌+◌, ◌*◌, refl, ap, ◌∙◌}
 use lib.Seq.{paste}
-use Rattle.words.proofs.Shots.{opens, opens_lent, opens_none, saves_room}
+use Rattle.words.proofs.Shots.{opens, opens_lent, opens_none}
 use Rattle.words.proofs.snapshot.SnapshotStore.open_level.Goals as goal
 
-pub returns-then-self : goal.returns-then-self
-returns-then-self c =
-    record {
-      opens = (refl, opens_none c.args.self.now.words.now c.args.self.now.size c.args.self.now.limit c.args.self.now.depth c.if-self.true, refl);
-      behind = refl;
-    }
+pub returns-then-self-clause-opens : goal.returns-then-self-clause-opens
+returns-then-self-clause-opens c =
+    let self = c.args.self.now in
+    (refl, opens_none self.words.now self.size self.limit self.depth c.if-self.true, refl)
 
-pub save-requires : goal.save-requires
-save-requires c =
-    let room = saves_room c.args.self.now.words.now c.args.self.now.size c.args.self.now.limit c.args.self.now.depth c.if-self.false in
-    rw c.part_size-size.ensures room
+pub returns-clause-opens : goal.returns-clause-opens
+returns-clause-opens c =
+    let self = c.args.self.now in
+    opens self.words.now self.size self.limit c.save.new.words self.depth c.if-self.false
+    (c.save.ensures ∙ ap (λ n. paste self.words.now ((self.depth + 1) * n) self.words.now n) c.part_size-size.ensures)
 
-pub returns : goal.returns
-returns c =
-    let ws = c.args.self.now.words.now in
-    let level = c.args.self.now.depth in
-    let copied = c.save.ensures ∙ ap (λ n. paste ws ((level + 1) * n) ws n) c.part_size-size.ensures in
-    record {
-      opens = opens ws c.args.self.now.size c.args.self.now.limit c.save.new.words level c.if-self.false copied;
-      behind = opens_lent ws c.args.self.now.size c.args.self.now.limit c.args.self.now.words.ghost_name c.save.new.words level c.if-self.false copied;
-    }
+pub returns-clause-behind : goal.returns-clause-behind
+returns-clause-behind c =
+    let self = c.args.self.now in
+    opens_lent self.words.now self.size self.limit self.words.ghost_name c.save.new.words self.depth c.if-self.false
+    (c.save.ensures ∙ ap (λ n. paste self.words.now ((self.depth + 1) * n) self.words.now n) c.part_size-size.ensures)

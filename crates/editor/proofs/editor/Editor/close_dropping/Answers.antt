@@ -1,0 +1,9 @@
+use Rattle.editor.specs.declared.call.Call.TheVariants.{Drop}
+use Rattle.editor.specs.Plain.{plain}
+use Rattle.editor.proofs.Calling.{called_by}
+use Rattle.editor.proofs.editor.Editor.close_dropping.Goals as goal
+
+pub returns-clause-called : goal.returns-clause-called
+returns-clause-called g c =
+    let b = c.args.self.now.board in
+    called_by b c.drop_batch.new.board Drop (plain c.drop_batch.result) tt c.in_ok-serves.ensures (λ _ _. c.drop_batch.ensures.replies b.signals) c.drop_batch.ensures.stays

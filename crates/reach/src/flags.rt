@@ -1,0 +1,27 @@
+// The table of flags that a search borrows.
+ghost use Rattle.std.specs.Prelude.{◌≡◌, ◌<◌, replicate, MatchBool, ◌≢◌, slice_index, slice_set};
+
+// Whatever the flags held, each is 0.
+pub fn clear(flags: &mut [u8; 1024])
+    ensures { flags.new ≡ replicate 1024 0 }
+{
+    *flags = [0; 1024];
+}
+
+// Whether a number is below the limit and flagged.
+pub(crate) fn is_marked(flags: &[u8; 1024], number: u32) -> bool
+    ensures { MatchBool result ((number < 1024) × (slice_index flags.now number ≢ 0)) (number < 1024 → slice_index flags.now number ≡ 0) }
+{
+    flags.get(number as usize).is_some_and(|flag| *flag != 0)
+}
+
+// Flags a number that is below the limit and not flagged yet. Says whether it was such a number.
+pub(crate) fn mark(flags: &mut [u8; 1024], number: u32) -> bool
+    ensures { MatchBool result ((number < 1024) × (slice_index flags.old number ≡ 0) × (flags.new ≡ slice_set flags.old number 1)) ((number < 1024 → slice_index flags.old number ≢ 0) × (flags.new ≡ flags.old)) }
+{
+    let free = flags.get(number as usize).is_some_and(|flag| *flag == 0);
+    if free {
+        flags[number as usize] = 1;
+    }
+    free
+}
