@@ -54,6 +54,7 @@ fn check_mark<S: Store>(board: &StoredBoard<S>) -> Result<(), Refusal>
     }
 }
 
+// It and `drop_mark` differ in one call; a closure over that would need a contract as long as either.
 pub(crate) fn keep_mark<S: Store>(board: &mut StoredBoard<S>) -> Result<(), Refusal>
     ensures replies { (m : ℕ) → Replies m board.old.words KeepMark board.new.words (plain result) }
     ensures stays { Stays board.old board.new }

@@ -75,11 +75,9 @@ fn smallest_at(numbers: &[u32]) -> usize
     ensures one { 0 < length numbers.now → result < length numbers.now }
     ensures least { (k : ℕ) → k < length numbers.now → slice_index numbers.now result ≤ slice_index numbers.now k }
 {
-    let mut at = 0;
-    for (i, number) in numbers.iter().enumerate() {
-        if *number < numbers[at] {
-            at = i;
-        }
-    }
-    at
+    numbers
+        .iter()
+        .enumerate()
+        .min_by_key(|(_, number)| **number)
+        .map_or(0, |(at, _)| at)
 }

@@ -1,7 +1,7 @@
 -- Pins put in turn: what one more put adds.
 use Rattle.std.proofs.Common.{◌≡◌, ℕ, zero, suc, ◌+◌, ◌-◌, ◌*◌, ◌<◌, ◌≤◌, min, Bool, ◌⊎◌, List, [], ◌∷◌, ◌++◌, length, get_or, take, drop, sym, refl, ap, ◌∙◌, subst, inl, inr, ⊎_elim, arith}
 use Rattle.std.proofs.lemmas.Bool.{cases_lt, cases_Bool, cond-true, cond-false}
-use Rattle.std.proofs.lemmas.List.{length-take, length-drop, get_or-take, take_more, take_all}
+use Rattle.std.proofs.lemmas.List.{length-take, length-drop, take_more, take_all}
 use Rattle.reach.specs.Reach.{Among}
 use Rattle.netlist.specs.Netlist.{Netlist, Feeds}
 use Rattle.netlist.specs.Places.{Order, place, those, segment, OrderedBut, Moves, Puts, PutsAll}

@@ -27,6 +27,7 @@ fn fill_others<S: Store>(board: &mut StoredBoard<S>, span: Span, search: &Search
     ensures room { result.next + length result.held.items < 4294967296 }
     ensures only { OnlyWords board.old board.new }
 {
+    // Only some of the places walked are filled, so the next one is counted here.
     let mut next = span.low;
     let mut held = ArrayVec::new();
     for place in span.low..span.end() {

@@ -1,23 +1,14 @@
-use Rattle.std.proofs.Common.{◌≡◌, ℕ, List, length, get_or, take, Ok, Err, Result, sym, subst, arith}
-use Rattle.std.proofs.lemmas.Bool.{false≢true}
-use Rattle.std.specs.Result.{IsErr, IsErrAnd}
+use Rattle.std.proofs.Common.{◌≡◌, ℕ, get_or, take, Ok, Err, Result, sym, ap, ◌∙◌, subst, arith}
+use Rattle.std.proofs.lemmas.Result.{err_from_is_err_and}
 use Rattle.words.specs.Meaning.{Meaning}
-use Rattle.reach.specs.Reach.{Among}
 use Rattle.reach.specs.Listed.{along}
 use Rattle.reach.specs.declared.path.Path.{Path}
 use Rattle.netlist.specs.Netlist.{Loop}
-use Rattle.board.specs.Board.{netlist_of}
 use Rattle.board.proofs.Writes.{only_words-refl, only_words-trans}
 use Rattle.places.specs.Put.{Ready, PutsPin}
 use Rattle.edits.specs.Puts.{PutsPins}
 use Rattle.edits.proofs.Putting.{so_far_none, so_far_more, so_far_all, placed_ready, among_at}
 use Rattle.edits.proofs.puts.put_all.Goals as goal
-
--- the loop that one put meets is handed on as it is
-loop_replied : (m : ℕ) (before after : Meaning) (s a : ℕ) (on : List ℕ) (path : Path) → Among a on → Loop (netlist_of m before.image) (along path) →
-    (r : Result ℕ Path) → IsErr r → IsErrAnd r (λ e. e ≡ path) → PutsPins m before s on after r
-loop_replied m before after s a on path among loop (Ok _) none h = absurd (false≢true none)
-loop_replied m before after s a on path among loop (Err e) _ h = (a, among, subst (λ p. Loop (netlist_of m before.image) (along p)) (sym h) loop)
 
 -- what a put says, at as many signals
 put-same : (k m : ℕ) (before : Meaning) (s a : ℕ) (after : Meaning) (r : Result ℕ Path) → k ≡ m → (Ready k before.image s a → PutsPin k before s a after r) →
@@ -54,9 +45,9 @@ returns-in_err-put_pin-clause-puts g c =
     let among = among_at c.args.nets.now c.loop-net.net-index (omega arith) in
     let put = put-same l.signals b.signals l.words c.args.gate a c.put_pin.new.board.words (Err path) c.loop-net.invariant.1.stays.signals c.in_err-put_pin.ensures.puts
     (placed_ready b.signals b.words.image c.args.gate c.args.nets.now (take c.loop-net.net-index c.args.nets.now) l.words.image c.loop-net.total r h.placed a among) in
-    loop_replied b.signals b.words c.put_pin.new.board.words c.args.gate a c.args.nets.now path among
-    (subst (λ n. Loop n (along path)) h.placed.netlist put.1)
-    c.from_residual.result c.from_residual.ensures.0 c.from_residual.ensures.1
+    let (e, is, same) = err_from_is_err_and c.from_residual.result c.from_residual.ensures.1 in
+    subst (PutsPins b.signals b.words c.args.gate c.args.nets.now c.put_pin.new.board.words) (sym (is ∙ ap Err same))
+    (a, among, subst (λ n. Loop n (along path)) h.placed.netlist put.1)
 
 pub returns : goal.returns
 returns g c =

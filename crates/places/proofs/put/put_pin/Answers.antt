@@ -1,30 +1,21 @@
-use Rattle.std.proofs.Common.{◌≡◌, ℕ, suc, Ok, Err, Result, refl, sym, subst}
-use Rattle.std.proofs.lemmas.Bool.{false≢true}
-use Rattle.std.specs.Result.{IsErr, IsErrAnd}
-use Rattle.words.specs.Meaning.{Meaning}
-use Rattle.reach.specs.declared.path.Path.{Path}
-use Rattle.netlist.specs.Netlist.{Loop}
+use Rattle.std.proofs.Common.{ℕ, suc, Err, refl, sym, ap, ◌∙◌, subst}
+use Rattle.std.proofs.lemmas.Result.{err_from_is_err_and}
 use Rattle.places.specs.Put.{PutsPin}
 use Rattle.reach.specs.Listed.{listed, along}
 use Rattle.netlist.specs.Places.{Arranges}
-use Rattle.board.specs.Board.{netlist_of, order_of}
+use Rattle.board.specs.Board.{order_of}
 use Rattle.places.specs.Refill.{Range, Renumbered}
 use Rattle.places.proofs.Placed.{looped, moved}
 use Rattle.places.proofs.put.put_pin.Goals as goal
 
--- the loop is handed on as it is
-loop_replied : (m : ℕ) (before : Meaning) (s a : ℕ) (path : Path) → Loop (netlist_of m before.image) (along path) →
-    (r : Result ℕ Path) → IsErr r → IsErrAnd r (λ e. e ≡ path) → PutsPin m before s a before r
-loop_replied m before s a path loop (Ok _) none h = absurd (false≢true none)
-loop_replied m before s a path loop (Err e) _ h = (refl, subst (λ p. Loop (netlist_of m before.image) (along p)) (sym h) loop)
-
 pub returns-in_err-moved-clause-puts : goal.returns-in_err-moved-clause-puts
 returns-in_err-moved-clause-puts g c =
     let b = c.args.board.now in
+    let path = c.in_err-moved.field-0.0 in
+    let (e, is, same) = err_from_is_err_and c.from_residual.result c.from_residual.ensures.1 in
     λ ready.
-    loop_replied b.signals b.words c.args.gate c.args.net c.in_err-moved.field-0.0
-    (looped b.signals b.words.image c.args.gate c.args.net ready c.read-2.result (along c.in_err-moved.field-0.0) c.in_err-moved.ensures.answers.0)
-    c.from_residual.result c.from_residual.ensures.0 c.from_residual.ensures.1
+    subst (PutsPin b.signals b.words c.args.gate c.args.net b.words) (sym (is ∙ ap Err same))
+    (refl, looped b.signals b.words.image c.args.gate c.args.net ready c.read-2.result (along path) c.in_err-moved.ensures.answers.0)
 
 pub returns-clause-puts : goal.returns-clause-puts
 returns-clause-puts g c =

@@ -1,4 +1,4 @@
-use Rattle.std.proofs.Common.{◌+◌, ◌<◌, ℕ, ◌≡◌, length, refl, sym, ap, ◌∙◌, subst, arith, List}
+use Rattle.std.proofs.Common.{length, refl, ap, ◌∙◌, arith}
 use Rattle.std.proofs.lemmas.List.{length-set}
 use Rattle.board.specs.Layout.{word}
 use Rattle.board.proofs.Writes.{only_words-refl, only_words-trans, only_words-reworded, zeros_more, zeros_all}
