@@ -23,7 +23,7 @@ pub struct Desk<S: Store> {
 impl<S: Store> Model for Desk<S> {
     ghost use Rattle.desk.specs.State.{State};
     ghost use Rattle.desk.specs.Held.{Holds, left};
-    
+
     ghost Value = { State };
 
     ghost view = { λ d. record { signals = d.editor.board.signals; store = d.editor.board.words; lent = d.editor.board.lent; shown = d.editor.shown; held = d.held } };
