@@ -29,9 +29,7 @@ impl<S: Store> Relation for Fanout<'_, S> {
     }
 
     fn step(&self, edge: u32) -> Option<Neighbour> {
-        let Some(pin) = edge.checked_sub(1) else {
-            return None;
-        };
+        let pin = edge.checked_sub(1)?;
         if !self.board.has_pin(pin) {
             return None;
         }

@@ -37,15 +37,13 @@ impl<S: Store> StoredBoard<S> {
 
     // A pin is on the signal where it tells a first one.
     pub fn is_used(&self, signal: u32) -> bool
-        requires { signal < self.now.signals }
-        ensures { Sound self.now.signals self.now.words.image → Decides result (Used (netlist_of self.now.signals self.now.words.image) signal) }
+        ensures { signal < self.now.signals → Sound self.now.signals self.now.words.image → Decides result (Used (netlist_of self.now.signals self.now.words.image) signal) }
     {
         self.read(Field::First, signal) != 0
     }
 
     pub fn is_output(&self, signal: u32) -> bool
-        requires { signal < self.now.signals }
-        ensures { result ≡ output_of (netlist_of self.now.signals self.now.words.image) signal }
+        ensures { signal < self.now.signals → result ≡ output_of (netlist_of self.now.signals self.now.words.image) signal }
     {
         self.read(Field::Output, signal) == 1
     }

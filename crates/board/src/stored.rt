@@ -30,6 +30,15 @@ impl<S: Store> StoredBoard<S> {
         StoredBoard { store, signals }
     }
 
+    // Gives the store back, with its words and levels as they are.
+    pub fn into_store(self) -> S
+        ensures words { S.Store.model result ≡ self.words }
+        ensures behind { S.Store.lent result ≡ self.lent }
+    {
+        let StoredBoard { store, .. } = self;
+        store
+    }
+
     // M
     pub fn signals(&self) -> u32
         ensures { result ≡ self.now.signals }

@@ -20,11 +20,8 @@ pub(crate) fn open_batch<S: Store>(board: &mut StoredBoard<S>) -> Result<(), Ref
     if board.levels() > 0 {
         return Err(Refusal::BatchOpen);
     }
-    match board.open_level() {
-        Ok(()) => Ok(()),
-        // a store of no levels at all
-        Err(_) => Err(Refusal::NoLevelForMark),
-    }
+    // a store of no levels at all
+    board.open_level().map_err(|_| Refusal::NoLevelForMark)
 }
 
 // The last level stays free.

@@ -54,29 +54,20 @@ impl<S: Store> Editor<S> {
     pub fn kind(&self, signal: u32) -> Option<Kind>
         ensures { MatchOption result (self.now.board.signals ≤ signal) (λ k. (signal < self.now.board.signals) × (k ≡ kind_of (driver_of (netlist_of self.now.board.signals self.now.board.words.image) signal))) }
     {
-        if signal >= self.signals() {
-            return None;
-        }
-        Some(self.board.kind(signal))
+        (signal < self.signals()).then_some(self.board.kind(signal))
     }
 
     pub fn output_mark(&self, signal: u32) -> Option<bool>
         ensures { MatchOption result (self.now.board.signals ≤ signal) (λ o. (signal < self.now.board.signals) × (o ≡ output_of (netlist_of self.now.board.signals self.now.board.words.image) signal)) }
     {
-        if signal >= self.signals() {
-            return None;
-        }
-        Some(self.board.is_output(signal))
+        (signal < self.signals()).then_some(self.board.is_output(signal))
     }
 
     // the signals that its pins are on
     pub fn pins(&self, signal: u32) -> Option<Pins>
         ensures { MatchOption result (self.now.board.signals ≤ signal) (λ p. (signal < self.now.board.signals) × (p.items ≡ pins_of (driver_of (netlist_of self.now.board.signals self.now.board.words.image) signal))) }
     {
-        if signal >= self.signals() {
-            return None;
-        }
-        Some(pins_at(&self.board, signal))
+        (signal < self.signals()).then_some(pins_at(&self.board, signal))
     }
 
     // the table of a gate
@@ -102,19 +93,13 @@ impl<S: Store> Editor<S> {
     pub fn place(&self, signal: u32) -> Option<u32>
         ensures { MatchOption result (self.now.board.signals ≤ signal) (λ p. (signal < self.now.board.signals) × ((log : List Entry) → Led self.now.board.signals log self.now.board.words → p ≡ place_of (order_of self.now.board.signals self.now.board.words.image) signal)) }
     {
-        if signal >= self.signals() {
-            return None;
-        }
-        Some(self.board.read(Field::Seat, signal))
+        (signal < self.signals()).then_some(self.board.read(Field::Seat, signal))
     }
 
     pub fn signal_at(&self, place: u32) -> Option<u32>
         ensures { MatchOption result (self.now.board.signals ≤ place) (λ s. (place < self.now.board.signals) × (s ≡ slice_index (order_of self.now.board.signals self.now.board.words.image) place)) }
     {
-        if place >= self.signals() {
-            return None;
-        }
-        Some(self.board.read(Field::Holder, place))
+        (place < self.signals()).then_some(self.board.read(Field::Holder, place))
     }
 
     // the loop shown since the last edit, its smallest signal first

@@ -6,13 +6,13 @@ use netlist::Refusal;
 use std::alloc::Global;
 use words::Store;
 
-// An editor to be made: over how many words, with how many levels open, and whether it serves.
+// An editor to be made: over how many words, with how many levels open, and what the test answers.
 #[derive(Clone, Copy)]
 struct Making {
     signals: u32,
     size: usize,
     opened: usize,
-    serves: bool,
+    answer: Result<(), Refusal>,
 }
 
 static MAKINGS: [Making; 8] = [
@@ -20,49 +20,49 @@ static MAKINGS: [Making; 8] = [
         signals: 0,
         size: 24,
         opened: 0,
-        serves: false,
+        answer: Err(Refusal::NoEditor),
     },
     Making {
         signals: 1,
         size: 48,
         opened: 0,
-        serves: true,
+        answer: Ok(()),
     },
     Making {
         signals: 1,
         size: 47,
         opened: 0,
-        serves: false,
+        answer: Err(Refusal::NoEditor),
     },
     Making {
         signals: 1,
         size: 48,
         opened: 1,
-        serves: false,
+        answer: Err(Refusal::NoEditor),
     },
     Making {
         signals: 1,
         size: 65536,
         opened: 0,
-        serves: true,
+        answer: Ok(()),
     },
     Making {
         signals: 1024,
         size: 24600,
         opened: 0,
-        serves: true,
+        answer: Ok(()),
     },
     Making {
         signals: 1024,
         size: 24599,
         opened: 0,
-        serves: false,
+        answer: Err(Refusal::NoEditor),
     },
     Making {
         signals: 1025,
         size: 24624,
         opened: 0,
-        serves: false,
+        answer: Err(Refusal::NoEditor),
     },
 ];
 
@@ -75,11 +75,12 @@ fn is_made<S: Store + Drop>(store: S, making: Making) -> bool {
     let _ = store.set(0, 5);
     let test = Editor::test(&store, making.signals);
     let editor = Editor::new(store, making.signals);
-    if making.serves {
-        test == Ok(()) && editor.signals() == making.signals
+    let signals = if making.answer.is_ok() {
+        making.signals
     } else {
-        test.map_err(Refusal::number) == Err(1) && editor.signals() == 0
-    }
+        0
+    };
+    test == making.answer && editor.signals() == signals
 }
 
 fn is_made_on_both(heap: Global, making: Making) -> anyhow::Result<Outcome> {

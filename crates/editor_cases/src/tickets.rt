@@ -11,11 +11,13 @@ const SIZE: usize = 96;
 
 const LIMIT: usize = 3;
 
-// Keep, then drop, at an editor that should hand back the ticket of another with a number.
-fn hand_in<A: Store, B: Store>(first: &mut Desk<A>, second: &mut Desk<B>, number: u32) -> bool {
-    let kept = first.keep_at(second).map(Refusal::number);
-    let dropped = first.drop_at(second).map(Refusal::number);
-    kept == Some(number) && dropped == Some(number)
+// Keep, then drop, at an editor that should hand back the ticket of another with a refusal.
+fn hand_in<A: Store, B: Store>(
+    first: &mut Desk<A>,
+    second: &mut Desk<B>,
+    refusal: Refusal,
+) -> bool {
+    first.keep_at(second) == Some(refusal) && first.drop_at(second) == Some(refusal)
 }
 
 // The ticket of the first editor goes to the one without signals, to the second without a batch, and is taken by the second with one,
@@ -26,8 +28,8 @@ fn exchange<A: Store, B: Store, C: Store>(
     none: &mut Desk<C>,
 ) -> bool {
     first.begin().is_ok()
-        && hand_in(first, none, 1)
-        && hand_in(first, second, 10)
+        && hand_in(first, none, Refusal::NoEditor)
+        && hand_in(first, second, Refusal::NoBatch)
         && swap_tickets(first, second)
 }
 

@@ -32,9 +32,9 @@ pub fn make_edit<S: Store>(
 {
     clear(flags);
     check(board, edit)?;
-    if board.open_level().is_err() {
-        return Err(EditFault::Refused(Refusal::NoLevelForMark));
-    }
+    board
+        .open_level()
+        .map_err(|_| EditFault::Refused(Refusal::NoLevelForMark))?;
     match place(board, edit, flags) {
         Ok(count) => {
             let _ = board.keep_level();
