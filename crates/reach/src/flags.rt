@@ -15,7 +15,7 @@ pub(crate) fn is_marked(flags: &[u8; 1024], number: u32) -> bool
     flags.get(number as usize).is_some_and(|flag| *flag != 0)
 }
 
-// Flags a number that is below the limit and not flagged yet. Says whether it was such a number.
+// Flags a number that is below the limit and not flagged yet. As the `insert` of a set does, it says whether the number was new.
 pub(crate) fn mark(flags: &mut [u8; 1024], number: u32) -> bool
     ensures { MatchBool result ((number < 1024) × (slice_index flags.old number ≡ 0) × (flags.new ≡ slice_set flags.old number 1)) ((number < 1024 → slice_index flags.old number ≢ 0) × (flags.new ≡ flags.old)) }
 {

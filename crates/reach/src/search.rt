@@ -9,7 +9,7 @@ ghost use Rattle.reach.specs.Answer.{Answers, Whole, Searched, PathTo, Determine
 use crate::flags::{clear, is_marked, mark};
 use crate::path::Path;
 use crate::queue::{Found, Queue};
-use crate::relation::Relation;
+use crate::relation::{Neighbours, Relation};
 
 const LIMIT: usize = 1024;
 
@@ -140,10 +140,8 @@ impl<'a> Search<'a> {
             (λ _. Kept query.now.sought self.new.flags.now found × Round next query.now.start (place + 1) found)
             (λ _. Arrived next query.now.start query.now.sought found) }
     {
-        let mut edge = query.relation.first(number);
-        while let Some(neighbour) = query.relation.step(edge) {
-            self.note(query.sought, place, neighbour.number)?;
-            edge = neighbour.next;
+        for neighbour in Neighbours::of(query.relation, number) {
+            self.note(query.sought, place, neighbour)?;
         }
         Ok(())
     }
@@ -159,6 +157,7 @@ impl<'a> Search<'a> {
     {
         self.clear();
         self.note(query.sought, 0, query.start)?;
+        // the list grows while it is walked, so its places are counted
         for place in 0..LIMIT {
             let Some(number) = self.queue.number(place) else {
                 break;

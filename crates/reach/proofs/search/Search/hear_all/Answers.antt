@@ -11,7 +11,7 @@ returns-in_err-note-clause-outcome g c =
     MatchResult-from_err c.from_residual.result _ _ c.from_residual.ensures.0
     (λ _. arrived next c.args.query.now.start c.args.query.now.sought c.note.new.self.flags.now (listed c.note.new.self.queue) heard.stand heard.sought
     (telling_more next c.args.query.now.start c.args.place _ (listed c.loop-neighbour.self.queue) c.loop-neighbour.invariant.telling
-    c.in-Some.neighbour.number _ _ c.in-Some.ensures heard.heard))
+    c.in-Some.neighbour _ _ c.in-Some.ensures.steps heard.heard))
 
 pub loop-neighbour-preserved : goal.loop-neighbour-preserved
 loop-neighbour-preserved g c =
@@ -22,7 +22,7 @@ loop-neighbour-preserved g c =
       kept = record { stand = heard.stand; unmet = heard.sought };
       telling =
           telling_goes next c.args.query.now.start c.args.place _ (listed c.loop-neighbour.self.queue) c.loop-neighbour.invariant.telling
-          c.in-Some.neighbour.number _ _ c.in-Some.ensures heard.heard;
+          c.in-Some.neighbour _ _ c.in-Some.ensures.steps heard.heard;
     }
 
 pub returns-clause-outcome : goal.returns-clause-outcome
@@ -31,7 +31,7 @@ returns-clause-outcome g c =
     let loop = c.loop-neighbour.invariant in (
       loop.kept,
       record {
-        is = telling_ends next c.args.query.now.start c.args.place _ (listed c.loop-neighbour.self.queue) loop.telling c.in_default.ensures;
+        is = telling_ends next c.args.query.now.start c.args.place _ (listed c.loop-neighbour.self.queue) loop.telling c.in-None.ensures.steps.0;
         few = omega (arith, loop.telling.few);
       },
     )
