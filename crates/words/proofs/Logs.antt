@@ -2,9 +2,11 @@
 use Rattle.std.proofs.Common.{◌≡◌, ℕ, suc, ◌+◌, ◌-◌, ◌*◌, ◌<◌, ◌≤◌, List, [], ◌∷◌, ◌++◌, length, get_or, take, drop, set, Ok, sym, refl, ap, ◌∙◌, subst, mul-le-mul_left, mul-one, add-one, arith}
 use lib.Seq.{take-set-lt}
 use Rattle.std.proofs.lemmas.List.{get_or-take, get_or_append_left, get_or_at, length-append, length-take-le, set-set, set-get_or, drop-set-lt, drop-drop}
+use Rattle.arrayvec.specs.ArrayVec.{ArrayVec}
 use Rattle.words.specs.declared.inverse_log.InverseLog.{InverseLog}
-use Rattle.words.specs.Meaning.{Meaning, Sets, Opens, Keeps, Drops, levels, newest}
+use Rattle.words.specs.Meaning.{Sets, Opens, Keeps, Drops, levels, newest}
 use Rattle.words.specs.InverseLog.{undo, pile, log_meaning, log_lent, Notes}
+use Rattle.words.specs.LogSteps.{meaning_of, Stays}
 use Rattle.words.proofs.Blocks.{cell-rest}
 use Rattle.words.proofs.Noting.{Sound, sound_of}
 use Rattle.words.proofs.Images.{same_meaning}
@@ -32,10 +34,6 @@ lent_by lender lender' ws ws' n d same behind = λ i. record { lender = same i; 
 pub lent_rest : (lender lender' : ℕ) (ws ws' : List ℕ) (n d : ℕ) → lender' ≡ lender → drop n ws' ≡ drop n ws → log_lent lender' ws' n d ≡ log_lent lender ws n d
 lent_rest lender lender' ws ws' n d same rest = lent_by lender lender' ws ws' n d same (behind-rest ws ws' n d rest)
 
-pub lent_notes : (lender lender' : ℕ) (n d level : ℕ) (first : List ℕ → List ℕ) (ws noted ws' noted' : List ℕ) → lender' ≡ lender → Notes n d level first ws noted ws' noted'
-    → log_lent lender' ws' n d ≡ log_lent lender ws n d
-lent_notes lender lender' n d level first ws noted ws' noted' same h = lent_by lender lender' ws ws' n d same h.behind
-
 -- the levels below one whose notes alone changed have saved what they had
 older : (n d level : ℕ) (first : List ℕ → List ℕ) (ws noted ws' noted' : List ℕ) (k : ℕ) → k ≤ level → ((other : ℕ) → other < k → get_or noted other 0 ≤ n)
     → Notes n d level first ws noted ws' noted' → (image : List ℕ) → pile ws' n noted' k image ≡ pile ws n noted k image
@@ -54,9 +52,32 @@ piled n d level first ws noted ws' noted' few h image =
     ap (λ im. im ∷ pile ws' n noted' level im) (h.undone image)
     ∙ ap (λ older'. undo ws n level (get_or noted level 0) (first image) ∷ older') (older n d level first ws noted ws' noted' level (omega arith) few h (undo ws n level (get_or noted level 0) (first image)))
 
--- what a log means
-abbrev pub meaning_of : InverseLog → Meaning
-meaning_of log = log_meaning log.words.now log.shape.size log.shape.limit (length log.noted.items) log.noted.items
+-- ---- what stays
+
+module _ (before after : InverseLog) (shape : after.shape ≡ before.shape) (lender : after.words.ghost_name ≡ before.words.ghost_name) where
+  abbrev needed : ℕ
+  needed = before.shape.size * (3 * before.shape.limit + 2)
+
+  stays : length after.noted.items ≡ length before.noted.items → drop needed after.words.now ≡ drop needed before.words.now → Stays before after
+  stays depth behind =
+      record {
+        shape = shape;
+        depth = depth;
+        lent =
+            (λ i. log_lent after.words.ghost_name after.words.now (shape i).size (shape i).limit)
+            ∙ lent_by before.words.ghost_name after.words.ghost_name before.words.now after.words.now before.shape.size before.shape.limit lender behind;
+      }
+
+  pub stays_noted : (level : ℕ) (first : List ℕ → List ℕ)
+      → Notes before.shape.size before.shape.limit level first before.words.now before.noted.items after.words.now after.noted.items → Stays before after
+  stays_noted level first h = stays h.depth h.behind
+
+  pub stays_rest : after.noted ≡ before.noted → drop before.shape.size after.words.now ≡ drop before.shape.size before.words.now → Stays before after
+  stays_rest noted rest =
+      stays (ap (λ (v : ArrayVec _). length v.items) noted) (behind-rest before.words.now after.words.now before.shape.size before.shape.limit rest)
+
+pub stays_then : (first second third : InverseLog) → Stays first second → Stays second third → Stays first third
+stays_then first second third h g = record { shape = g.shape ∙ h.shape; depth = g.depth ∙ h.depth; lent = g.lent ∙ h.lent }
 
 module _ (log : InverseLog) where
   abbrev ws : List ℕ

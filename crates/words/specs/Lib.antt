@@ -3,3 +3,4 @@ pub mod Meaning
 pub mod Making
 pub mod Snapshot
 pub mod InverseLog
+pub mod LogSteps

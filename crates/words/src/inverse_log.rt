@@ -59,9 +59,13 @@ impl<'a> InverseLog<'a> {
     {
         memory::make(words, size, limit)
     }
+}
+
+impl InverseLog<'_> {
+    ghost use Rattle.words.specs.LogSteps.{IsOpen, Stays, meaning_of, meaning_below};
 
     fn has_noted(&self, level: usize, at: usize) -> bool
-        requires { (level < array_vec_len self.now.noted) × (at < self.now.shape.size) }
+        requires { IsOpen self.now level × (at < self.now.shape.size) }
         ensures noted { result ≡ true → HasNoted self.now.words.now self.now.shape.size level (slice_index self.now.noted.items level) at }
         ensures missing { result ≡ false → HasNoted self.now.words.now self.now.shape.size level (slice_index self.now.noted.items level) at → ⊥ }
     {
@@ -69,15 +73,12 @@ impl<'a> InverseLog<'a> {
         place < self.noted[level]
             && self.words[self.shape.cell(3 * level + 1, place)] as usize == at
     }
-}
 
-impl InverseLog<'_> {
     // Notes a word's former value in a level, unless the level has noted that word.
     fn note(&mut self, level: usize, at: usize, former: u32)
-        requires { (level < array_vec_len self.old.noted) × (at < self.old.shape.size) }
+        requires { IsOpen self.old level × (at < self.old.shape.size) }
         ensures notes { Notes self.old.shape.size self.old.shape.limit level (λ image. set image at former) self.old.words.now self.old.noted.items self.new.words.now self.new.noted.items }
-        ensures shape { self.new.shape ≡ self.old.shape }
-        ensures lender { self.new.words.ghost_name ≡ self.old.words.ghost_name }
+        ensures stays { Stays self.old self.new }
     {
         if self.has_noted(level, at) {
             return;
@@ -97,9 +98,7 @@ impl InverseLog<'_> {
         requires { at < self.old.shape.size }
         ensures image { take self.old.shape.size self.new.words.now ≡ take self.old.shape.size self.old.words.now }
         ensures saved { (word : ℕ) → pile self.new.words.now self.old.shape.size self.new.noted.items (array_vec_len self.old.noted) (slice_set (take self.old.shape.size self.old.words.now) at word) ≡ pile self.old.words.now self.old.shape.size self.old.noted.items (array_vec_len self.old.noted) (take self.old.shape.size self.old.words.now) }
-        ensures lent { log_lent self.new.words.ghost_name self.new.words.now self.old.shape.size self.old.shape.limit ≡ log_lent self.old.words.ghost_name self.old.words.now self.old.shape.size self.old.shape.limit }
-        ensures shape { self.new.shape ≡ self.old.shape }
-        ensures depth { array_vec_len self.new.noted ≡ array_vec_len self.old.noted }
+        ensures stays { Stays self.old self.new }
     {
         let Some(level) = self.noted.len().checked_sub(1) else {
             return;
@@ -110,12 +109,11 @@ impl InverseLog<'_> {
 
     // Writes back what a level has noted, the newest first.
     fn undo_notes(&mut self, level: usize)
-        requires { level < array_vec_len self.old.noted }
+        requires { IsOpen self.old level }
         ensures image { take self.old.shape.size self.new.words.now ≡ undo self.old.words.now self.old.shape.size level (slice_index self.old.noted.items level) (take self.old.shape.size self.old.words.now) }
         ensures rest { drop self.old.shape.size self.new.words.now ≡ drop self.old.shape.size self.old.words.now }
-        ensures shape { self.new.shape ≡ self.old.shape }
         ensures noted { self.new.noted ≡ self.old.noted }
-        ensures lender { self.new.words.ghost_name ≡ self.old.words.ghost_name }
+        ensures stays { Stays self.old self.new }
     {
         // the number of a note is part of the address of its word and of its value
         for i in (0..self.noted[level]).rev() {
@@ -127,10 +125,9 @@ impl InverseLog<'_> {
 
     // Notes in the level below what a level has noted.
     fn merge_down(&mut self, level: usize)
-        requires { (0 < level) × (level < array_vec_len self.old.noted) }
+        requires { (0 < level) × IsOpen self.old level }
         ensures notes { Notes self.old.shape.size self.old.shape.limit (level - 1) (undo self.old.words.now self.old.shape.size level (slice_index self.old.noted.items level)) self.old.words.now self.old.noted.items self.new.words.now self.new.noted.items }
-        ensures shape { self.new.shape ≡ self.old.shape }
-        ensures lender { self.new.words.ghost_name ≡ self.old.words.ghost_name }
+        ensures stays { Stays self.old self.new }
     {
         // likewise
         for i in 0..self.noted[level] {
@@ -142,10 +139,9 @@ impl InverseLog<'_> {
 
     // Hands the notes of the newest level to the level below it, if there is one: without that level, the store means what keep leaves.
     fn hand_down(&mut self)
-        requires { 0 < array_vec_len self.old.noted }
-        ensures keeps { Keeps (log_meaning self.old.words.now self.old.shape.size self.old.shape.limit (array_vec_len self.old.noted) self.old.noted.items) (log_meaning self.new.words.now self.new.shape.size self.new.shape.limit (array_vec_len self.old.noted - 1) self.new.noted.items) (Ok tt) }
-        ensures behind { log_lent self.new.words.ghost_name self.new.words.now self.new.shape.size self.new.shape.limit ≡ log_lent self.old.words.ghost_name self.old.words.now self.old.shape.size self.old.shape.limit }
-        ensures depth { array_vec_len self.new.noted ≡ array_vec_len self.old.noted }
+        requires { IsOpen self.old 0 }
+        ensures keeps { Keeps (meaning_of self.old) (meaning_below self.new) (Ok tt) }
+        ensures stays { Stays self.old self.new }
     {
         let level = self.noted.len() - 1;
         if level > 0 {
@@ -155,10 +151,9 @@ impl InverseLog<'_> {
 
     // Takes back what the newest level has noted: without that level, the store means what drop leaves.
     fn take_back(&mut self)
-        requires { 0 < array_vec_len self.old.noted }
-        ensures drops { Drops (log_meaning self.old.words.now self.old.shape.size self.old.shape.limit (array_vec_len self.old.noted) self.old.noted.items) (log_meaning self.new.words.now self.new.shape.size self.new.shape.limit (array_vec_len self.old.noted - 1) self.new.noted.items) (Ok tt) }
-        ensures behind { log_lent self.new.words.ghost_name self.new.words.now self.new.shape.size self.new.shape.limit ≡ log_lent self.old.words.ghost_name self.old.words.now self.old.shape.size self.old.shape.limit }
-        ensures depth { array_vec_len self.new.noted ≡ array_vec_len self.old.noted }
+        requires { IsOpen self.old 0 }
+        ensures drops { Drops (meaning_of self.old) (meaning_below self.new) (Ok tt) }
+        ensures stays { Stays self.old self.new }
     {
         let level = self.noted.len() - 1;
         self.undo_notes(level);

@@ -16,6 +16,7 @@ pub enum StoreRefusal {
 }
 
 impl StoreRefusal {
+    // Its number, as a host is told it.
     pub fn number(self) -> u32
         ensures { result ≡ number_of self }
     {

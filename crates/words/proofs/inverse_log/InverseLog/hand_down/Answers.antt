@@ -1,7 +1,8 @@
-use Rattle.std.proofs.Common.{◌≡◌, suc, ◌-◌, length, Ok, sym, ◌∙◌, subst, arith}
+use Rattle.std.proofs.Common.{◌≡◌, suc, ◌-◌, length, Ok, sym, subst, arith}
 use Rattle.words.specs.Meaning.{Keeps}
-use Rattle.words.specs.InverseLog.{log_meaning, log_lent}
-use Rattle.words.proofs.Logs.{meaning_of, handed, keeps, lent_notes}
+use Rattle.words.specs.InverseLog.{log_meaning}
+use Rattle.words.specs.LogSteps.{meaning_of}
+use Rattle.words.proofs.Logs.{handed, keeps}
 use Rattle.words.proofs.inverse_log.InverseLog.hand_down.Goals as goal
 
 pub returns-then-level-gt0 : goal.returns-then-level-gt0
@@ -11,7 +12,7 @@ returns-then-level-gt0 c =
     let h = c.merge_down.ensures in
     let level = c.len-level.result - 1 in
     let depth : length before.noted.items ≡ suc level = omega (arith, c.len-level.ensures.value) in
-    let newest : length before.noted.items - 1 ≡ level = omega (arith, depth) in
+    let newest : length after.noted.items - 1 ≡ level = omega (arith, depth, h.stays.depth) in
     let saved =
     handed before after.words.now after.noted.items level (omega arith) (omega (arith, depth)) h.notes in
     let told =
@@ -19,10 +20,6 @@ returns-then-level-gt0 c =
     record {
       keeps =
           subst (λ m. Keeps (meaning_of before) m (Ok tt))
-          (sym (λ i. log_meaning after.words.now (h.shape i).size (h.shape i).limit (newest i) after.noted.items)) told;
-      behind =
-          (λ i. log_lent after.words.ghost_name after.words.now (h.shape i).size (h.shape i).limit)
-          ∙ lent_notes before.words.ghost_name after.words.ghost_name before.shape.size before.shape.limit (level - 1) _
-          before.words.now before.noted.items after.words.now after.noted.items h.lender h.notes;
-      depth = h.notes.depth;
+          (sym (λ i. log_meaning after.words.now (h.stays.shape i).size (h.stays.shape i).limit (newest i) after.noted.items)) told;
+      stays = h.stays;
     }

@@ -1,5 +1,6 @@
-use Rattle.std.proofs.Common.{◌≡◌, ◌-◌}
+use Rattle.std.proofs.Common.{◌-◌}
 use Rattle.words.specs.InverseLog.{undo, Notes}
+use Rattle.words.specs.LogSteps.{Stays}
 use Rattle.words.proofs.inverse_log.InverseLog.merge_down.Given as goal
 
 abbrev pub invariant-loop-i : goal.invariant-loop-i
@@ -8,6 +9,5 @@ invariant-loop-i l =
     let n = l.initial.self.shape.size in
     record {
       notes : Notes n l.initial.self.shape.limit (l.level - 1) (undo ws n l.level l.i) ws l.initial.self.noted.items l.self.words.now l.self.noted.items;
-      shape : l.self.shape ≡ l.initial.self.shape;
-      lender : l.self.words.ghost_name ≡ l.initial.self.words.ghost_name;
+      stays : Stays l.initial.self l.self;
     }

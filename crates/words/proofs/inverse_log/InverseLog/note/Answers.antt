@@ -1,4 +1,5 @@
-use Rattle.std.proofs.Common.{get_or, ap, arith}
+use Rattle.std.proofs.Common.{refl, get_or, ap, arith}
+use Rattle.words.proofs.Logs.{stays_noted}
 use Rattle.words.proofs.Noting.{note_room, owed_log_word, owed_log_value, owed_log_note, log-notes, notes_old, refilled}
 use Rattle.words.proofs.inverse_log.InverseLog.note.Goals as goal
 
@@ -36,3 +37,10 @@ returns-clause-notes c =
     log-notes c.args.self.now c.args.level c.args.at c.args.former _ _ _ _
     (record { used = omega arith; below = omega arith; missing = c.has_noted.ensures.missing c.if-has_noted.false; count-is = ap (λ xs. get_or xs c.args.level 0) c.deref.ensures.0; x-is = c.cell-word_cell.ensures; y-is = c.cell-value_cell.ensures; z-is = c.cell-place_cell.ensures })
     _ (refilled _ _ _ _ c.deref_mut.ensures.value)
+
+pub returns-clause-stays : goal.returns-clause-stays
+returns-clause-stays c =
+    stays_noted c.args.self.now _ refl refl c.args.level _
+    (log-notes c.args.self.now c.args.level c.args.at c.args.former _ _ _ _
+    (record { used = omega arith; below = omega arith; missing = c.has_noted.ensures.missing c.if-has_noted.false; count-is = ap (λ xs. get_or xs c.args.level 0) c.deref.ensures.0; x-is = c.cell-word_cell.ensures; y-is = c.cell-value_cell.ensures; z-is = c.cell-place_cell.ensures })
+    _ (refilled _ _ _ _ c.deref_mut.ensures.value))

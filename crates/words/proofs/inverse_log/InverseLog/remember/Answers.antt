@@ -1,5 +1,5 @@
 use Rattle.std.proofs.Common.{◌≡◌, suc, length, refl, arith}
-use Rattle.words.proofs.Logs.{remembered, lent_notes}
+use Rattle.words.proofs.Logs.{remembered}
 use Rattle.words.proofs.inverse_log.InverseLog.remember.Goals as goal
 
 pub returns : goal.returns
@@ -13,9 +13,5 @@ returns c =
       image = h.notes.image;
       saved =
           remembered before after.words.now after.noted.items level c.args.at _ depth refl (omega arith) h.notes;
-      lent =
-          lent_notes before.words.ghost_name after.words.ghost_name before.shape.size before.shape.limit level _
-          before.words.now before.noted.items after.words.now after.noted.items h.lender h.notes;
-      shape = h.shape;
-      depth = h.notes.depth;
+      stays = h.stays;
     }

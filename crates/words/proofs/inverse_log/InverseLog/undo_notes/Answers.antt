@@ -2,6 +2,7 @@ use Rattle.std.proofs.Common.{◌≡◌, ◌+◌, ◌-◌, ◌<◌, length, get_
 use Rattle.arrayvec.specs.ArrayVec.{ArrayVec}
 use Rattle.words.specs.declared.inverse_log.Shape.{Shape}
 use Rattle.words.specs.InverseLog.{undo}
+use Rattle.words.proofs.Logs.{stays_rest}
 use Rattle.words.proofs.Steps.{rest_taken, taken_more}
 use Rattle.words.proofs.inverse_log.InverseLog.undo_notes.Goals as goal
 
@@ -27,3 +28,7 @@ loop-i-preserved c =
       noted = so_far.noted;
       lender = so_far.lender;
     }
+
+pub returns-clause-stays : goal.returns-clause-stays
+returns-clause-stays c =
+    let loop = c.loop-i.invariant in stays_rest c.args.self.now c.loop-i.self loop.shape loop.lender loop.noted loop.rest
