@@ -8,31 +8,25 @@ use Rattle.words.proofs.Blocks.{cell-rest}
 
 -- ---- taking back
 
-module _ (log : InverseLog) (level i x y : ℕ) (used : level < length log.noted.items) (noted : i < get_or log.noted.items level 0)
-    (x-is : x ≡ (3 * level + 1) * log.shape.size + i) (y-is : y ≡ (3 * level + 2) * log.shape.size + i) where
+module _ (log : InverseLog) (level place w v : ℕ) (used : level < length log.noted.items) (noted : place < get_or log.noted.items level 0)
+    (w-is : w ≡ word_at log.words.now log.shape.size level place) (v-is : v ≡ value_at log.words.now log.shape.size level place) where
   abbrev memory : List ℕ
   memory = log.words.now
 
-  word_is : get_or memory x 0 ≡ word_at memory log.shape.size level i
-  word_is = ap (λ j. get_or memory j 0) x-is
+  pub word_below : w < log.shape.size
+  word_below = rw w-is (log.within level place (used, noted))
 
-  value_is : get_or memory y 0 ≡ value_at memory log.shape.size level i
-  value_is = ap (λ j. get_or memory j 0) y-is
-
-  pub word_below : get_or memory x 0 < log.shape.size
-  word_below = rw word_is (log.within level i (used, noted))
-
-  pub rest_taken : (n : ℕ) (ws : List ℕ) → log.shape.size ≡ n → drop n memory ≡ drop n ws → drop n (set memory (get_or memory x 0) (get_or memory y 0)) ≡ drop n ws
-  rest_taken n ws size rest = drop-set-lt n memory (get_or memory x 0) (get_or memory y 0) (subst (λ m. get_or memory x 0 < m) size word_below) ∙ rest
+  pub rest_taken : (n : ℕ) (ws : List ℕ) → log.shape.size ≡ n → drop n memory ≡ drop n ws → drop n (set memory w v) ≡ drop n ws
+  rest_taken n ws size rest = drop-set-lt n memory w v (subst (λ m. w < m) size word_below) ∙ rest
 
   -- one note more is taken back
-  pub taken_more : (n : ℕ) (ws image : List ℕ) → log.shape.size ≡ n → drop n memory ≡ drop n ws → undo ws n level (i + 1) (take n memory) ≡ image
-      → undo ws n level i (take n (set memory (get_or memory x 0) (get_or memory y 0))) ≡ image
+  pub taken_more : (n : ℕ) (ws image : List ℕ) → log.shape.size ≡ n → drop n memory ≡ drop n ws → undo ws n level (place + 1) (take n memory) ≡ image
+      → undo ws n level place (take n (set memory w v)) ≡ image
   taken_more n ws image size rest left =
-      let word : get_or memory x 0 ≡ word_at ws n level i = word_is ∙ ap (λ m. word_at memory m level i) size ∙ cell-rest ws memory n (3 * level + 1) i (omega arith) rest in
-      let value : get_or memory y 0 ≡ value_at ws n level i = value_is ∙ ap (λ m. value_at memory m level i) size ∙ cell-rest ws memory n (3 * level + 2) i (omega arith) rest in
-      ap (undo ws n level i) (take-set-lt n memory (get_or memory x 0) (get_or memory y 0) (subst (λ m. get_or memory x 0 < m) size word_below) ∙ (λ j. set (take n memory) (word j) (value j)))
-      ∙ ap (λ m. undo ws n level m (take n memory)) (sym (add-one i)) ∙ left
+      let word : w ≡ word_at ws n level place = w-is ∙ ap (λ m. word_at memory m level place) size ∙ cell-rest ws memory n (3 * level + 1) place (omega arith) rest in
+      let value : v ≡ value_at ws n level place = v-is ∙ ap (λ m. value_at memory m level place) size ∙ cell-rest ws memory n (3 * level + 2) place (omega arith) rest in
+      ap (undo ws n level place) (take-set-lt n memory w v (subst (λ m. w < m) size word_below) ∙ (λ j. set (take n memory) (word j) (value j)))
+      ∙ ap (λ m. undo ws n level m (take n memory)) (sym (add-one place)) ∙ left
 
 -- ---- handing down
 

@@ -5,7 +5,7 @@ ghost use Rattle.std.specs.Prelude.{◌≡◌, ℕ, ◌+◌, ◌-◌, ◌*◌, �
 ghost use Rattle.arrayvec.specs.ArrayVec.{array_vec_len};
 ghost use Rattle.words.specs.Making.{Tests, Makes};
 ghost use Rattle.words.specs.Meaning.{Keeps, Drops};
-ghost use Rattle.words.specs.InverseLog.{log_meaning, log_lent, undo, pile, Within, Placed, HasNoted, Notes};
+ghost use Rattle.words.specs.InverseLog.{log_meaning, log_lent, word_at, value_at, undo, pile, NoteAt, Within, Placed, HasNoted, Notes};
 
 use crate::memory;
 use crate::memory::OverMemory;
@@ -74,6 +74,17 @@ impl InverseLog<'_> {
             && self.words[self.shape.cell(3 * level + 1, place)] as usize == at
     }
 
+    // The word that a level noted at a place, and the value that it had.
+    fn noted_at(&self, level: usize, place: usize) -> (usize, u32)
+        requires { NoteAt (array_vec_len self.now.noted) self.now.noted.items level place }
+        ensures word { result.0 ≡ word_at self.now.words.now self.now.shape.size level place }
+        ensures value { result.1 ≡ value_at self.now.words.now self.now.shape.size level place }
+    {
+        let word = self.words[self.shape.cell(3 * level + 1, place)];
+        let value = self.words[self.shape.cell(3 * level + 2, place)];
+        (word as usize, value)
+    }
+
     // Notes a word's former value in a level, unless the level has noted that word.
     fn note(&mut self, level: usize, at: usize, former: u32)
         requires { IsOpen self.old level × (at < self.old.shape.size) }
@@ -115,10 +126,9 @@ impl InverseLog<'_> {
         ensures noted { self.new.noted ≡ self.old.noted }
         ensures stays { Stays self.old self.new }
     {
-        // the number of a note is part of the address of its word and of its value
-        for i in (0..self.noted[level]).rev() {
-            let word = self.words[self.shape.cell(3 * level + 1, i)] as usize;
-            let value = self.words[self.shape.cell(3 * level + 2, i)];
+        // by their places, since an iterator over the notes would hold the memory that is written
+        for place in (0..self.noted[level]).rev() {
+            let (word, value) = self.noted_at(level, place);
             self.words[word] = value;
         }
     }
@@ -129,10 +139,9 @@ impl InverseLog<'_> {
         ensures notes { Notes self.old.shape.size self.old.shape.limit (level - 1) (undo self.old.words.now self.old.shape.size level (slice_index self.old.noted.items level)) self.old.words.now self.old.noted.items self.new.words.now self.new.noted.items }
         ensures stays { Stays self.old self.new }
     {
-        // likewise
-        for i in 0..self.noted[level] {
-            let word = self.words[self.shape.cell(3 * level + 1, i)] as usize;
-            let value = self.words[self.shape.cell(3 * level + 2, i)];
+        // by their places, for the same reason
+        for place in 0..self.noted[level] {
+            let (word, value) = self.noted_at(level, place);
             self.note(level - 1, word, value);
         }
     }

@@ -16,7 +16,7 @@ pub enum StoreRefusal {
 }
 
 impl StoreRefusal {
-    // Its number, as a host is told it.
+    // A host is told numbers, and clauses of other crates name them, so each refusal has one.
     pub fn number(self) -> u32
         ensures { result ≡ number_of self }
     {

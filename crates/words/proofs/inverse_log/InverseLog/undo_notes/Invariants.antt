@@ -2,12 +2,12 @@ use Rattle.std.proofs.Common.{◌≡◌, get_or, take, drop}
 use Rattle.words.specs.InverseLog.{undo}
 use Rattle.words.proofs.inverse_log.InverseLog.undo_notes.Given as goal
 
-abbrev pub invariant-loop-i : goal.invariant-loop-i
-invariant-loop-i l =
+abbrev pub invariant-loop-place : goal.invariant-loop-place
+invariant-loop-place l =
     let ws = l.initial.self.words.now in
     let n = l.initial.self.shape.size in
     record {
-      image : undo ws n l.level l.i (take n l.self.words.now) ≡ undo ws n l.level (get_or l.initial.self.noted.items l.level 0) (take n ws);
+      image : undo ws n l.level l.place (take n l.self.words.now) ≡ undo ws n l.level (get_or l.initial.self.noted.items l.level 0) (take n ws);
       rest : drop n l.self.words.now ≡ drop n ws;
       shape : l.self.shape ≡ l.initial.self.shape;
       noted : l.self.noted ≡ l.initial.self.noted;
