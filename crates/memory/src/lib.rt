@@ -1,11 +1,14 @@
 // The memory that a host lends to a store of words, with room for either store.
 #![tactic(auto)]
 
+mod pair;
+
 ghost use Rattle.std.specs.Prelude.{◌≡◌, IfOk, replicate};
 ghost use Rattle.std.specs.Borrow.{sem};
 ghost use Rattle.memory.specs.Room.{Host, room, Tests, Gives};
 ghost use Rattle.memory.specs.Lending.{LendsWords};
 
+pub use pair::Pair;
 use std::alloc::{AllocError, Global};
 use std::marker::Model;
 use words::{InverseLog, LEVELS_MOST, Snapshot, Store, StoreRefusal, WORDS_MOST};
