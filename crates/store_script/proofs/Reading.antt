@@ -1,5 +1,5 @@
 -- Decimal numbers and lines, read from their front.
-use Rattle.std.proofs.Common.{◌≡◌, ◌≢◌, ◌==◌, ℕ, zero, suc, ◌+◌, ◌-◌, ◌*◌, ◌^◌, ◌<◌, ◌≤◌, List, [], ◌∷◌, ◌++◌, length, get_or, take, drop, position, Some, None, codes, Option, sym, refl, ap, ◌∙◌, subst, arith, MatchOption}
+use Rattle.std.proofs.Common.{◌≡◌, ◌≢◌, ◌==◌, ℕ, zero, suc, ◌+◌, ◌-◌, ◌*◌, ◌<◌, ◌≤◌, List, [], ◌∷◌, ◌++◌, length, get_or, take, drop, position, Some, None, codes, Option, sym, refl, ap, ◌∙◌, subst, arith, MatchOption}
 use Rattle.std.proofs.lemmas.Bool.Decides.{nat_tests}
 use Rattle.std.proofs.lemmas.List.{length-append, get_or_at, get_or_append_left, take_at, drop_at, drop-drop, drop_more, take-append-drop}
 use Rattle.std.proofs.lemmas.List.Quantifiers.{position-Some}
@@ -13,15 +13,6 @@ use Rattle.store_script.specs.Commands.{Digits, Decimal, Operands, SetOperands, 
 pub digits_grow : (bs : List ℕ) (before n : ℕ) → Digits bs before n → before ≤ n
 digits_grow [] before n h = omega arith
 digits_grow (b ∷ bs) before n h = let more = digits_grow bs (before * 10 + (b - 48)) n h.2 in omega arith
-
--- where a digit is none, or one too many, what is left says no number below 2^32
-pub stuck : (text : List ℕ) (i before n : ℕ) → i < length text
-    → (48 ≤ get_or text i 0 → get_or text i 0 ≤ 57 → 2 ^ 32 ≤ before * 10 + (get_or text i 0 - 48)) → n < 2 ^ 32 → Digits (drop i text) before n → ⊥
-stuck text i before n within large small h =
-    let d = subst (λ bs. Digits bs before n) (drop_more text i 0 within) h in
-    let most = digits_grow (drop (i + 1) text) (before * 10 + (get_or text i 0 - 48)) n d.2 in
-    let least = large d.0 d.1 in
-    omega arith
 
 -- ---- operands
 

@@ -37,18 +37,14 @@ fn append_digit(n: u32, b: u8) -> Option<u32>
     n.checked_mul(10)?.checked_add(u32::from(b - b'0'))
 }
 
-// The number that decimal digits say, if it is below 2^32.
+// The number that decimal digits say, if it is below 2^32. A number of a text has at most 5 digits, and is read by another function.
 pub fn decimal(text: &[u8]) -> Option<u32>
     ensures { MatchOption result ((n : ℕ) → Decimal text.now n → ⊥) (λ n. Decimal text.now n) }
 {
     if text.is_empty() {
         return None;
     }
-    let mut n: u32 = 0;
-    for b in text {
-        n = append_digit(n, *b)?;
-    }
-    Some(n)
+    text.iter().try_fold(0, |n, b| append_digit(n, *b))
 }
 
 // Where the first blank stands.

@@ -1,5 +1,5 @@
 // A command played on a store, and on two stores at once.
-ghost use Rattle.std.specs.Prelude.{◌≡◌, IfOk};
+ghost use Rattle.std.specs.Prelude.{◌≡◌, IfOk, slice_index};
 ghost use Rattle.store_script.specs.Plays.{Plays, Agree};
 
 use crate::command::Command;
@@ -19,29 +19,30 @@ pub fn play<S: Store>(store: &mut S, command: Command) -> Result<(), StoreRefusa
     }
 }
 
-// What two stores replied to one command.
-pub struct Both {
-    pub first: Result<(), StoreRefusal>,
-    pub second: Result<(), StoreRefusal>,
+// What both stores reply.
+pub fn play_both<A: Store, B: Store>(
+    first: &mut A,
+    second: &mut B,
+    command: Command,
+) -> (Result<(), StoreRefusal>, Result<(), StoreRefusal>)
+    ensures first { Plays (A.Store.model first.old) (A.Store.model first.new) command result.0 }
+    ensures second { Plays (B.Store.model second.old) (B.Store.model second.new) command result.1 }
+    ensures agree { Agree (A.Store.model first.old) (A.Store.model first.new) result.0 (B.Store.model second.old) (B.Store.model second.new) result.1 }
+{
+    let reply = play(first, command);
+    (reply, play(second, command))
 }
 
-pub fn play_both<A: Store, B: Store>(first: &mut A, second: &mut B, command: Command) -> Both
-    ensures first { Plays (A.Store.model first.old) (A.Store.model first.new) command result.first }
-    ensures second { Plays (B.Store.model second.old) (B.Store.model second.new) command result.second }
-    ensures agree { Agree (A.Store.model first.old) (A.Store.model first.new) result.first (B.Store.model second.old) (B.Store.model second.new) result.second }
+// A word of the present image, or 0 behind it.
+fn word_of<S: Store>(store: &S, at: usize) -> u32
+    ensures { result ≡ slice_index (S.Store.model store.now).image at }
 {
-    let first = play(first, command);
-    let second = play(second, command);
-    Both { first, second }
+    store.get(at).unwrap_or(0)
 }
 
 // The present image, word by word: a store lends no slice of it.
 pub fn image_of<S: Store>(heap: Global, store: &S) -> Result<Vec<u32>, AllocError>
     ensures { IfOk result (λ v. v.items ≡ (S.Store.model store.now).image) }
 {
-    let mut image = Vec::new(heap);
-    for at in 0..store.size() {
-        image.push(store.get(at).unwrap_or(0))?;
-    }
-    Ok(image)
+    (0..store.size()).map(|at| word_of(store, at)).collect(heap)
 }
