@@ -3,13 +3,15 @@
 
 mod plain;
 mod sequence;
+mod state;
 
 use anyhow::ensure;
-use memory::Memory;
+use memory::{Memory, Pair};
 use plain::Plain;
 use sequence::Sequence;
+use state::State;
 use std::alloc::{AllocError, Global};
-use store_script::{image_of, play};
+use store_script::play;
 use words::Store;
 
 // One store to be tried: its N and D, and the commands.
@@ -19,16 +21,6 @@ struct Case {
     limit: usize,
     seed: u64,
     steps: usize,
-}
-
-// Whether a store has the image and the levels of the plain one, and tells no word behind them.
-fn same<S: Store>(heap: Global, store: &S, plain: &Plain) -> Result<bool, AllocError> {
-    let image = image_of(heap, store)?;
-    Ok(
-        image.as_slice() == plain.image()
-            && store.levels() == plain.levels()
-            && store.get(store.size()).is_none(),
-    )
 }
 
 // How a case went: whether every reply and every image was the plain one's, and, good or not, how many levels were open at most.
@@ -48,49 +40,33 @@ fn played<S: Store + Drop>(heap: Global, mut store: S, case: Case) -> Result<Tri
         let expected = plain.play(command)?;
         trial.good = trial.good
             && play(&mut store, command) == expected
-            && same(heap, &store, &plain)?;
+            && State::of(heap, &store)? == plain.state()?;
         trial.deepest = trial.deepest.max(store.levels());
     }
     Ok(trial)
 }
 
 // A case on both stores.
-#[derive(Clone, Copy)]
-struct Trials {
-    log: Trial,
-    snapshot: Trial,
-}
-
-impl Trials {
-    fn of(heap: Global, case: Case) -> Result<Trials, AllocError> {
-        let mut memory = Memory::new(heap, case.size, case.limit, 7)?;
-        Ok(Trials {
-            log: played(heap, memory.log(), case)?,
-            snapshot: played(heap, memory.snapshot(), case)?,
-        })
-    }
-
-    fn good(&self) -> bool {
-        self.log.good && self.snapshot.good
-    }
-
-    fn deepest(&self) -> usize {
-        self.log.deepest.min(self.snapshot.deepest)
-    }
+fn tried(heap: Global, case: Case) -> Result<Pair<Trial>, AllocError> {
+    let mut memory = Memory::new(heap, case.size, case.limit, 7)?;
+    Ok(Pair {
+        log: played(heap, memory.log(), case)?,
+        snapshot: played(heap, memory.snapshot(), case)?,
+    })
 }
 
 fn try_edge(rt: &HostRuntime, name: &str, case: Case) -> anyhow::Result<bool> {
-    let trials = Trials::of(rt.alloc(), case)?;
-    println!(rt;
-        "{name}: N {}, D {}, {} commands, up to {} levels: inverse log {}, snapshot {}",
-        case.size,
-        case.limit,
-        case.steps,
-        trials.deepest(),
-        trials.log.good,
-        trials.snapshot.good
-    )?;
-    Ok(trials.good())
+    let Case {
+        size,
+        limit,
+        steps,
+        ..
+    } = case;
+    let trials = tried(rt.alloc(), case)?;
+    let good = trials.map(|trial| trial.good);
+    let deepest = trials.log.deepest.min(trials.snapshot.deepest);
+    println!(rt; "{name}: N {size}, D {limit}, {steps} commands, up to {deepest} levels: {good}")?;
+    Ok(good.both())
 }
 
 // Many short sequences over small stores of every shape.
@@ -104,8 +80,8 @@ fn try_random(rt: &HostRuntime) -> anyhow::Result<bool> {
             seed: u64::from(seed),
             steps: 90,
         };
-        let trials = Trials::of(rt.alloc(), case)?;
-        good = good.saturating_add(u32::from(trials.good()));
+        let trials = tried(rt.alloc(), case)?;
+        good = good.saturating_add(u32::from(trials.map(|trial| trial.good).both()));
         full = full.saturating_add(u32::from(trials.log.deepest == case.limit));
     }
     println!(rt;

@@ -2,14 +2,30 @@
 use draws::Draws;
 use store_script::Command;
 
+// Where a run of commands goes: into new levels, or back out of those that are open.
+#[derive(Clone, Copy)]
+enum Direction {
+    Down,
+    Up,
+}
+
+impl Direction {
+    fn turned(self) -> Direction {
+        match self {
+            Direction::Down => Direction::Up,
+            Direction::Up => Direction::Down,
+        }
+    }
+}
+
 #[derive(Clone, Copy)]
 pub struct Sequence {
     draws: Draws,
     size: u32,
     limit: u32,
-    // how many commands are left of the present run, and whether it goes down into new levels
+    // how many commands are left of the present run, and where it goes
     left: u32,
-    down: bool,
+    direction: Direction,
 }
 
 impl Sequence {
@@ -19,13 +35,13 @@ impl Sequence {
             size: size.min(65536) as u32,
             limit: limit.min(8) as u32,
             left: 0,
-            down: false,
+            direction: Direction::Up,
         }
     }
 
     fn next_command(&mut self) -> Command {
         if self.left == 0 {
-            self.down = !self.down;
+            self.direction = self.direction.turned();
             let extra = self.draws.below(6);
             self.left = self.limit.saturating_mul(4).saturating_add(extra);
         }
@@ -38,12 +54,10 @@ impl Sequence {
     }
 
     fn level_command(&mut self) -> Command {
-        if self.down {
-            Command::Open
-        } else if self.draws.below(2) == 0 {
-            Command::Keep
-        } else {
-            Command::Drop
+        match self.direction {
+            Direction::Down => Command::Open,
+            Direction::Up if self.draws.below(2) == 0 => Command::Keep,
+            Direction::Up => Command::Drop,
         }
     }
 
