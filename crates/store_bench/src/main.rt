@@ -2,7 +2,7 @@
 #![tactic(auto)]
 
 use anyhow::anyhow;
-use memory::Memory;
+use memory::{Memory, Pair};
 use std::time::Instant;
 use words::{Store, StoreRefusal};
 
@@ -19,6 +19,7 @@ fn level<S: Store, F: Fn(&mut S) -> Result<(), StoreRefusal>>(
 {
     let step = store.size() / WRITES;
     store.open_level()?;
+    // a loop, since an iterator that calls a closure made a level take a fifth longer
     for i in 0..WRITES {
         store.set(i.saturating_mul(step), 7)?;
     }
@@ -58,24 +59,28 @@ fn timed<S: Store + Drop>(rt: &HostRuntime, mut store: S, turns: u32) -> anyhow:
     })
 }
 
-// Both stores of `size` words and three levels.
+// What levels take over both stores of `size` words and three levels.
 #[derive(Clone, Copy)]
 struct Row {
     size: usize,
-    log: Times,
-    snapshot: Times,
+    times: Pair<Times>,
 }
 
 fn measured(rt: &HostRuntime, size: usize) -> anyhow::Result<Row> {
     let mut memory = Memory::new(rt.alloc(), size, 3, 0)?;
-    Ok(Row {
-        size,
+    let times = Pair {
         log: timed(rt, memory.log(), 20000)?,
         snapshot: timed(rt, memory.snapshot(), 200)?,
-    })
+    };
+    Ok(Row { size, times })
 }
 
-// One of the times of each size, and its ratio to that of the smallest store, in hundredths.
+// A time in hundredths of another.
+fn percent(time: u128, of: u128) -> u128 {
+    time.saturating_mul(100) / of.max(1)
+}
+
+// One of the times of each size, and its ratio to that of the smallest store.
 fn show<F: Fn(Times) -> u128>(
     rt: &HostRuntime,
     name: &str,
@@ -84,13 +89,12 @@ fn show<F: Fn(Times) -> u128>(
 ) -> anyhow::Result<()>
     requires { F.IsAlwaysCallable time }
 {
-    let [least, ..] = rows;
-    for row in rows {
-        let size = row.size;
-        let log = time(row.log);
-        let snapshot = time(row.snapshot);
-        let log_ratio = log.saturating_mul(100) / time(least.log).max(1);
-        let snapshot_ratio = snapshot.saturating_mul(100) / time(least.snapshot).max(1);
+    let [first, ..] = rows;
+    let least = first.times.map(&time);
+    for Row { size, times } in rows {
+        let Pair { log, snapshot } = times.map(&time);
+        let log_ratio = percent(log, least.log);
+        let snapshot_ratio = percent(snapshot, least.snapshot);
         eprintln!(rt;
             "{name}, N {size}: inverse log {log} ns ({log_ratio} % of N 1000), snapshot {snapshot} ns ({snapshot_ratio} %)"
         )?;
