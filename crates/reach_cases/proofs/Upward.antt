@@ -37,7 +37,12 @@ module _ (links : List Link) where
   pub rest-none : (edge : ℕ) → min (length links) end ≤ edge → rest_of links edge ≡ []
   rest-none edge le = chain_past (min (length links) end) edge le
 
-  pub rest_some : (edge : ℕ) → edge < min (length links) end →
+  rest_some : (edge : ℕ) → edge < min (length links) end →
       rest_of links edge ≡ (link_at links edge).to ∷ rest_of links (behind edge (link_at links edge).next)
   rest_some edge lt =
       chain_same (min (length links) end) (suc (min (length links) end)) edge (omega arith) (omega arith) ∙ chain_goes (min (length links) end) edge lt
+
+  pub rest_behind : (edge next : ℕ) (link : Link) → edge < min (length links) end → link_at links edge ≡ link → behind edge link.next ≡ next
+      → rest_of links edge ≡ link.to ∷ rest_of links next
+  rest_behind edge next link lt item is =
+      rest_some edge lt ∙ ap (λ l. l.to ∷ rest_of links (behind edge l.next)) item ∙ ap (λ e. link.to ∷ rest_of links e) is

@@ -5,7 +5,7 @@ ghost use Rattle.reach.specs.Listed.{along};
 
 use reach::{Path, Relation, Search};
 
-// How many are reached from a start, and whether one of them is `other`.
+// How many are reached from a start, and whether one of them is `other`: two answers, of which neither is told by the other.
 #[derive(Clone, Copy)]
 pub struct Tally {
     pub count: u32,

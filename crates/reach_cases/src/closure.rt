@@ -1,31 +1,24 @@
-// What is reached from a start, computed in a plain way: over all edges of a shape, again and again, until nothing is added.
+// What is reached from a start, computed in a plain way: a number that a reached one leads to is added, again and again, until there is none.
 use crate::graph::SIZE;
 use crate::shapes::Shape;
 
-// One pass over the edges. Says whether it added anything.
-fn pass(shape: Shape, marks: &mut [bool; 1024]) -> bool {
-    let mut grew = false;
-    for x in 0..SIZE {
-        for place in 0..shape.degree() {
-            let y = shape.neighbour(x, place);
-            if y < SIZE && marks[x as usize] && !marks[y as usize] {
-                marks[y as usize] = true;
-                grew = true;
-            }
-        }
-    }
-    grew
+// A number that is not marked, and that a marked one leads to.
+fn leading_out(shape: Shape, marks: &[bool; 1024]) -> Option<u32> {
+    (0..SIZE)
+        .filter(|x| marks[*x as usize])
+        .flat_map(|x| (0..shape.degree()).map(move |place| shape.neighbour(x, place)))
+        .find(|y| *y < SIZE && !marks[*y as usize])
 }
 
 pub fn closure(shape: Shape, start: u32) -> [bool; 1024] {
     let mut marks = [false; 1024];
-    if start < SIZE {
-        marks[start as usize] = true;
-    }
+    let mut next = Some(start);
     for _ in 0..SIZE {
-        if !pass(shape, &mut marks) {
+        let Some(mark) = next.and_then(|number| marks.get_mut(number as usize)) else {
             break;
-        }
+        };
+        *mark = true;
+        next = leading_out(shape, &marks);
     }
     marks
 }

@@ -1,6 +1,6 @@
 // A relation kept as chains of links in borrowed memory: for each number its chain, and for each link the one behind it.
 ghost use Rattle.std.specs.Prelude.{◌≡◌, ℕ, ◌<◌, List, [], ◌∷◌, MatchOption, slice_index_or};
-ghost use Rattle.reach_cases.specs.Chain.{rest_of, behind, first_of};
+ghost use Rattle.reach_cases.specs.Chain.{rest_of, first_of};
 
 use crate::link::{Chain, Link};
 use reach::{Neighbour, Relation};
@@ -32,14 +32,8 @@ impl Relation for Links<'_> {
         let link = self.links.get(edge as usize)?;
         Some(Neighbour {
             number: link.to,
-            next: upward(edge, link.next),
+            // a chain runs upward, so that it ends
+            next: if edge < link.next { link.next } else { END },
         })
     }
-}
-
-// A chain runs upward, so that it ends.
-fn upward(edge: u32, next: u32) -> u32
-    ensures { result ≡ behind edge next }
-{
-    if edge < next { next } else { END }
 }

@@ -1,6 +1,5 @@
-use Rattle.std.proofs.Common.{◌≡◌, ◌<◌, ◌≤◌, ◌∷◌, length, sym, ap, ◌∙◌, rules, arith}
-use Rattle.reach_cases.specs.Chain.{rest_of, behind, link_at}
-use Rattle.reach_cases.proofs.Upward.{rest-none, rest_some}
+use Rattle.std.proofs.Common.{◌<◌, ◌≤◌, length, rules, arith}
+use Rattle.reach_cases.proofs.Upward.{rest-none, rest_behind}
 use Rattle.reach_cases.proofs.links.LinksRelation.step.Goals as goal
 
 pub returns-then-edge-eq-END : goal.returns-then-edge-eq-END
@@ -11,13 +10,12 @@ returns-in_err-link c =
     let past : length c.args.self.now.links.now ≤ c.args.edge = search rules in
     rw c.from_residual.ensures (rest-none c.args.self.now.links.now c.args.edge (omega (arith, past)))
 
-pub returns : goal.returns
-returns c =
-    let links = c.args.self.now.links.now in
-    let edge = c.args.edge in
-    let link = c.in_ok-link.link.now in
-    let inside : edge < length links = search rules in
-    let item : link_at links edge ≡ link = search rules in
-    rest_some links edge (omega (arith, inside))
-    ∙ ap (λ l. l.to ∷ rest_of links (behind edge l.next)) item
-    ∙ ap (λ e. link.to ∷ rest_of links e) (sym c.upward.ensures)
+pub returns-then-edge-link : goal.returns-then-edge-link
+returns-then-edge-link c =
+    let inside : c.args.edge < length c.args.self.now.links.now = search rules in
+    rest_behind c.args.self.now.links.now c.args.edge _ c.in_ok-link.link.now (omega (arith, inside)) (search rules) (search rules)
+
+pub returns-else-edge-link : goal.returns-else-edge-link
+returns-else-edge-link c =
+    let inside : c.args.edge < length c.args.self.now.links.now = search rules in
+    rest_behind c.args.self.now.links.now c.args.edge _ c.in_ok-link.link.now (omega (arith, inside)) (search rules) (search rules)
