@@ -1,36 +1,27 @@
 // Store commands from standard input, one a line, played on both stores over lent memory.
 use anyhow::anyhow;
-use memory::Memory;
+use memory::{Memory, Pair};
+use std::alloc::{AllocError, Global};
 use std::fmt;
 use std::io::{BufRead, BufReader};
-use store_script::{Both, Command, image_of, parse, play_both};
+use store_script::{Command, Numbers, image_of, parse, play_both};
 use words::{Store, StoreRefusal};
 
-// N and D of the stores
-#[derive(Clone, Copy)]
-pub struct Shape {
-    pub size: usize,
-    pub limit: usize,
-}
-
-// Plays every line on an inverse log and a snapshot of one shape.
-pub fn play_input(rt: &HostRuntime, shape: Shape) -> anyhow::Result<()> {
+// Plays every line on an inverse log and a snapshot of `size` words and `limit` levels.
+pub fn play_input(rt: &HostRuntime, size: usize, limit: usize) -> anyhow::Result<()> {
     let heap = rt.alloc();
-    let mut log_memory = Memory::new(heap, shape.size, shape.limit, 0)?;
-    let mut snapshot_memory = Memory::new(heap, shape.size, shape.limit, 0)?;
+    let mut log_memory = Memory::new(heap, size, limit, 0)?;
+    let mut snapshot_memory = Memory::new(heap, size, limit, 0)?;
     log_memory
         .test()
         .map_err(|_| anyhow!("N is 0 to 65536 and D is 2 to 8"))?;
-    let stores = Pair {
-        first: log_memory.log(),
-        second: snapshot_memory.snapshot(),
-    };
-    play_lines(rt, stores)
+    play_lines(rt, log_memory.log(), snapshot_memory.snapshot())
 }
 
 fn play_lines<A: Store + Drop, B: Store + Drop>(
     rt: &HostRuntime,
-    mut stores: Pair<A, B>,
+    mut log: A,
+    mut snapshot: B,
 ) -> anyhow::Result<()> {
     let heap = rt.alloc();
     let lines = BufReader::new(heap, rt.stdin())?.split(heap, b'\n');
@@ -39,67 +30,75 @@ fn play_lines<A: Store + Drop, B: Store + Drop>(
             None => println!(rt;
                 "line {number}: no command; a line is one of: set AT WORD, open, keep, drop, show"
             )?,
-            Some(command) => stores.play(rt, number, command)?,
+            Some(command) => {
+                let told = played(heap, &mut log, &mut snapshot, command)?;
+                show(rt, number, command, &told)?;
+            }
         }
     }
     Ok(())
 }
 
-// Two stores that have to agree.
-#[derive(Drop)]
-struct Pair<A, B> {
-    first: A,
-    second: B,
+// What both stores tell of a command.
+fn played<A: Store, B: Store>(
+    heap: Global,
+    log: &mut A,
+    snapshot: &mut B,
+    command: Command,
+) -> Result<Pair<Told>, AllocError> {
+    let (reply, other) = play_both(log, snapshot, command);
+    Ok(Pair {
+        log: Told::of(heap, reply, log)?,
+        snapshot: Told::of(heap, other, snapshot)?,
+    })
 }
 
-impl<A: Store, B: Store> Pair<A, B> {
-    // Plays the command of a line on both, and prints what came of it.
-    fn play(&mut self, rt: &HostRuntime, number: u64, command: Command) -> anyhow::Result<()> {
-        let Both {
-            first: reply,
-            second: other,
-        } = play_both(&mut self.first, &mut self.second, command);
-        let heap = rt.alloc();
-        let image = image_of(heap, &self.first)?;
-        let levels = self.first.levels();
-        let agree = reply == other
-            && levels == self.second.levels()
-            && image == image_of(heap, &self.second)?;
-        println!(rt;
-            "line {number}: {command}: {}; levels {levels}; image{}; {}",
-            Said(reply),
-            Words(image.as_slice()),
-            if agree {
-                "both agree"
-            } else {
-                "THE STORES DIFFER"
-            }
-        )?;
-        Ok(())
+fn show(rt: &HostRuntime, number: u64, command: Command, told: &Pair<Told>) -> anyhow::Result<()> {
+    let Pair { log, snapshot } = told;
+    println!(rt;
+        "line {number}: {command}: {log}; {}",
+        if log == snapshot {
+            "both agree"
+        } else {
+            "THE STORES DIFFER"
+        }
+    )?;
+    Ok(())
+}
+
+// What a store tells once it has replied to a command.
+#[derive(PartialEq, Eq, Drop)]
+struct Told {
+    reply: Result<(), StoreRefusal>,
+    levels: usize,
+    image: Vec<u32>,
+}
+
+impl Told {
+    fn of<S: Store>(
+        heap: Global,
+        reply: Result<(), StoreRefusal>,
+        store: &S,
+    ) -> Result<Told, AllocError> {
+        Ok(Told {
+            reply,
+            levels: store.levels(),
+            image: image_of(heap, store)?,
+        })
     }
 }
 
-// A reply, and the words of an image, as they are printed.
-#[derive(Clone, Copy)]
-struct Said(Result<(), StoreRefusal>);
-
-impl fmt::Display for Said {
+impl fmt::Display for Told {
     fn fmt<W: fmt::Write>(&self, f: &mut fmt::Formatter<W>) -> fmt::Result {
-        match self.0 {
-            Ok(()) => write!(f, "ok"),
-            Err(refusal) => write!(f, "refused {}", refusal.number()),
+        match self.reply {
+            Ok(()) => write!(f, "ok")?,
+            Err(refusal) => write!(f, "refused {}", refusal.number())?,
         }
-    }
-}
-
-#[derive(Clone, Copy)]
-struct Words<'a>(&'a [u32]);
-
-impl fmt::Display for Words<'_> {
-    fn fmt<W: fmt::Write>(&self, f: &mut fmt::Formatter<W>) -> fmt::Result {
-        for word in self.0 {
-            write!(f, " {word}")?;
-        }
-        Ok(())
+        write!(
+            f,
+            "; levels {}; image{}",
+            self.levels,
+            Numbers(self.image.as_slice())
+        )
     }
 }
