@@ -81,6 +81,7 @@ impl Queue {
     {
         let mut numbers = ArrayVec::new();
         let mut next = Some(place);
+        // a loop, since an iterator over the numbers says which come, and not that there is room for all of them
         while let Some(at) = next {
             let (number, teller) = self.told_at(at);
             numbers.push(number);
