@@ -1,8 +1,8 @@
 -- What the steps of an inverse log's calls speak of.
-use Rattle.std.specs.Prelude.{◌≡◌, ℕ, ◌-◌, ◌<◌, length}
+use Rattle.std.specs.Prelude.{◌≡◌, ℕ, ◌-◌, ◌<◌, List, length, slice_index}
 use Rattle.words.specs.declared.inverse_log.InverseLog.{InverseLog}
 use Rattle.words.specs.Meaning.{Meaning, Lent}
-use Rattle.words.specs.InverseLog.{log_meaning, log_lent}
+use Rattle.words.specs.InverseLog.{log_meaning, log_lent, undo, Notes}
 
 abbrev pub meaning_of : InverseLog → Meaning
 meaning_of log = log_meaning log.words.now log.shape.size log.shape.limit (length log.noted.items) log.noted.items
@@ -17,6 +17,15 @@ lent_of log = log_lent log.words.ghost_name log.words.now log.shape.size log.sha
 -- a level is open
 abbrev pub IsOpen : InverseLog → ℕ → Type 0
 IsOpen log level = level < length log.noted.items
+
+-- an image with what a level has noted taken back
+abbrev pub undone : InverseLog → ℕ → List ℕ → List ℕ
+undone log level image = undo log.words.now log.shape.size level (slice_index log.noted.items level) image
+
+-- Everything is as it was but for the notes of one level, which now take back `first` more before what they took back.
+abbrev pub Noted : ℕ → (List ℕ → List ℕ) → InverseLog → InverseLog → Type 0
+Noted level first before after =
+    Notes before.shape.size before.shape.limit level first before.words.now before.noted.items after.words.now after.noted.items
 
 -- N, D and the number of open levels stay, and of the memory that is lent what the log never writes.
 pub record Stays (before after : InverseLog) : Type 0 where

@@ -5,7 +5,7 @@ ghost use Rattle.std.specs.Prelude.{◌≡◌, ℕ, ◌+◌, ◌-◌, ◌*◌, �
 ghost use Rattle.arrayvec.specs.ArrayVec.{array_vec_len};
 ghost use Rattle.words.specs.Making.{Tests, Makes};
 ghost use Rattle.words.specs.Meaning.{Keeps, Drops};
-ghost use Rattle.words.specs.InverseLog.{log_meaning, log_lent, word_at, value_at, undo, pile, NoteAt, Within, Placed, HasNoted, Notes};
+ghost use Rattle.words.specs.InverseLog.{log_meaning, log_lent, word_at, value_at, pile, NoteAt, Within, Placed, HasNoted};
 
 use crate::memory;
 use crate::memory::OverMemory;
@@ -62,7 +62,7 @@ impl<'a> InverseLog<'a> {
 }
 
 impl InverseLog<'_> {
-    ghost use Rattle.words.specs.LogSteps.{IsOpen, Stays, meaning_of, meaning_below};
+    ghost use Rattle.words.specs.LogSteps.{IsOpen, Noted, Stays, meaning_of, meaning_below, undone};
 
     fn has_noted(&self, level: usize, at: usize) -> bool
         requires { IsOpen self.now level × (at < self.now.shape.size) }
@@ -88,7 +88,7 @@ impl InverseLog<'_> {
     // Notes a word's former value in a level, unless the level has noted that word.
     fn note(&mut self, level: usize, at: usize, former: u32)
         requires { IsOpen self.old level × (at < self.old.shape.size) }
-        ensures notes { Notes self.old.shape.size self.old.shape.limit level (λ image. set image at former) self.old.words.now self.old.noted.items self.new.words.now self.new.noted.items }
+        ensures notes { Noted level (λ image. set image at former) self.old self.new }
         ensures stays { Stays self.old self.new }
     {
         if self.has_noted(level, at) {
@@ -121,7 +121,7 @@ impl InverseLog<'_> {
     // Writes back what a level has noted, the newest first.
     fn undo_notes(&mut self, level: usize)
         requires { IsOpen self.old level }
-        ensures image { take self.old.shape.size self.new.words.now ≡ undo self.old.words.now self.old.shape.size level (slice_index self.old.noted.items level) (take self.old.shape.size self.old.words.now) }
+        ensures image { take self.old.shape.size self.new.words.now ≡ undone self.old level (take self.old.shape.size self.old.words.now) }
         ensures rest { drop self.old.shape.size self.new.words.now ≡ drop self.old.shape.size self.old.words.now }
         ensures noted { self.new.noted ≡ self.old.noted }
         ensures stays { Stays self.old self.new }
@@ -136,7 +136,7 @@ impl InverseLog<'_> {
     // Notes in the level below what a level has noted.
     fn merge_down(&mut self, level: usize)
         requires { (0 < level) × IsOpen self.old level }
-        ensures notes { Notes self.old.shape.size self.old.shape.limit (level - 1) (undo self.old.words.now self.old.shape.size level (slice_index self.old.noted.items level)) self.old.words.now self.old.noted.items self.new.words.now self.new.noted.items }
+        ensures notes { Noted (level - 1) (undone self.old level) self.old self.new }
         ensures stays { Stays self.old self.new }
     {
         // by their places, for the same reason
