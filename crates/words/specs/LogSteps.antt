@@ -2,7 +2,7 @@
 use Rattle.std.specs.Prelude.{◌≡◌, ℕ, ◌-◌, ◌<◌, List, length, slice_index}
 use Rattle.words.specs.declared.inverse_log.InverseLog.{InverseLog}
 use Rattle.words.specs.Meaning.{Meaning, Lent}
-use Rattle.words.specs.InverseLog.{log_meaning, log_lent, undo, Notes}
+use Rattle.words.specs.InverseLog.{log_meaning, log_lent, undo, HasNoted, Notes}
 
 abbrev pub meaning_of : InverseLog → Meaning
 meaning_of log = log_meaning log.words.now log.shape.size log.shape.limit (length log.noted.items) log.noted.items
@@ -17,6 +17,10 @@ lent_of log = log_lent log.words.ghost_name log.words.now log.shape.size log.sha
 -- a level is open
 abbrev pub IsOpen : InverseLog → ℕ → Type 0
 IsOpen log level = level < length log.noted.items
+
+-- an open level has noted a word
+abbrev pub HasNotedWord : InverseLog → ℕ → ℕ → Type 0
+HasNotedWord log level at = HasNoted log.words.now log.shape.size level (slice_index log.noted.items level) at
 
 -- an image with what a level has noted taken back
 abbrev pub undone : InverseLog → ℕ → List ℕ → List ℕ

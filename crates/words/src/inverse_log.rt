@@ -1,11 +1,11 @@
 // The store that notes a word's former value the first time that a level writes it. Its memory is cut into blocks of N words: the present
 // image, and for each level the words that it has noted, their former values, and for each word its place among these. A place counts only
 // where that word is noted there, so opening a level clears nothing.
-ghost use Rattle.std.specs.Prelude.{◌≡◌, ℕ, ◌+◌, ◌-◌, ◌*◌, ◌<◌, ◌≤◌, true, false, length, take, drop, set, Ok, slice_index, slice_set};
+ghost use Rattle.std.specs.Prelude.{◌≡◌, ℕ, ◌+◌, ◌-◌, ◌*◌, ◌<◌, ◌≤◌, MatchBool, length, take, drop, set, Ok, slice_index, slice_set};
 ghost use Rattle.arrayvec.specs.ArrayVec.{array_vec_len};
 ghost use Rattle.words.specs.Making.{Tests, Makes};
 ghost use Rattle.words.specs.Meaning.{Keeps, Drops};
-ghost use Rattle.words.specs.InverseLog.{log_meaning, log_lent, word_at, value_at, pile, NoteAt, Within, Placed, HasNoted};
+ghost use Rattle.words.specs.InverseLog.{log_meaning, log_lent, word_at, value_at, pile, NoteAt, Within, Placed};
 
 use crate::memory;
 use crate::memory::OverMemory;
@@ -62,12 +62,11 @@ impl<'a> InverseLog<'a> {
 }
 
 impl InverseLog<'_> {
-    ghost use Rattle.words.specs.LogSteps.{IsOpen, Noted, Stays, meaning_of, meaning_below, undone};
+    ghost use Rattle.words.specs.LogSteps.{IsOpen, HasNotedWord, Noted, Stays, meaning_of, meaning_below, undone};
 
     fn has_noted(&self, level: usize, at: usize) -> bool
         requires { IsOpen self.now level × (at < self.now.shape.size) }
-        ensures noted { result ≡ true → HasNoted self.now.words.now self.now.shape.size level (slice_index self.now.noted.items level) at }
-        ensures missing { result ≡ false → HasNoted self.now.words.now self.now.shape.size level (slice_index self.now.noted.items level) at → ⊥ }
+        ensures { MatchBool result (HasNotedWord self.now level at) (HasNotedWord self.now level at → ⊥) }
     {
         let place = self.words[self.shape.cell(3 * level + 3, at)] as usize;
         place < self.noted[level]
