@@ -1,7 +1,7 @@
 // The rules of the editor on plain lists: a level is a copy of the whole board.
 use crate::call::{Reply, Shape};
 use crate::fault::{Fault, ensure, settle};
-use crate::plain_board::{Board, Driver, Gate, Latch, in_use, missing};
+use crate::plain_board::{Board, Driver, Gate, Latch, SIGNALS_MOST, in_use, missing};
 use crate::plain_places::put;
 use editor::Call;
 use netlist::{Edit, Refusal};
@@ -20,7 +20,7 @@ pub struct Model {
 impl Model {
     // An editor of a shape that none can have has no signals.
     pub fn new(heap: Global, shape: Shape) -> Result<Model, AllocError> {
-        let serves = shape.signals <= 1024 && 2 <= shape.limit && shape.limit <= 8;
+        let serves = shape.signals <= SIGNALS_MOST && 2 <= shape.limit && shape.limit <= 8;
         let signals = if serves { shape.signals } else { 0 };
         Ok(Model {
             signals,

@@ -3,6 +3,9 @@ use arrayvec::ArrayVec;
 use std::alloc::{AllocError, Global};
 use std::{iter, slice};
 
+// The most signals that an editor has.
+pub const SIGNALS_MOST: u32 = 1024;
+
 #[derive(Clone, Drop)]
 pub enum Driver {
     Absent,
@@ -136,7 +139,7 @@ fn has_pin_on(other: &Signal, signal: u32) -> bool {
 
 // The smallest absent signal in use.
 pub fn missing(signals: &[Signal]) -> Option<u32> {
-    (0..1024)
+    (0..SIGNALS_MOST)
         .zip(signals)
         .find(|(signal, found)| found.driver.is_absent() && in_use(signals, *signal))
         .map(|(signal, _)| signal)

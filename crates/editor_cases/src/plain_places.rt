@@ -1,6 +1,6 @@
 // The rule of places on plain lists: what is reached is found by going over all gates again and again until nothing is added.
 use crate::fault::{Fault, ensure};
-use crate::plain_board::{Board, Signal};
+use crate::plain_board::{Board, SIGNALS_MOST, Signal};
 use netlist::Refusal;
 use std::alloc::{AllocError, Global};
 
@@ -51,7 +51,7 @@ fn reached(heap: Global, signals: &[Signal], start: u32) -> Result<Vec<u32>, All
 // A signal that is not among those reached, and is fed by one of them.
 fn next_reached(signals: &[Signal], reached: &[u32]) -> Option<u32> {
     let is_fed = |fed: &Signal| reached.iter().any(|signal| fed.driver.is_fed_by(*signal));
-    (0..1024)
+    (0..SIGNALS_MOST)
         .zip(signals)
         .find(|(signal, fed)| !reached.contains(signal) && is_fed(fed))
         .map(|(signal, _)| signal)
