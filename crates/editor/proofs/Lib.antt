@@ -7,7 +7,6 @@ mod Laid
 pub mod Led
 mod Pinned
 mod Rotation
-mod Room
 mod Scanned
 mod Starting
 mod Stepping
