@@ -120,6 +120,7 @@ impl<S: Store> Editor<S> {
         ticket.settle(reply)
     }
 
+    // It and `close_keeping` differ in one call on the board; a closure that changes it would need a contract as long as either.
     fn close_dropping(&mut self) -> Result<(), Refusal>
         ensures { Batched self.old Drop self.new (plain result) }
     {
@@ -127,7 +128,7 @@ impl<S: Store> Editor<S> {
         drop_batch(&mut self.board)
     }
 
-    // ---- edits
+    // ---- edits, each by its name, and any as a value
 
     pub fn input(&mut self, signal: u32) -> Result<u32, Refusal>
         ensures { Edited self.old (Input signal) self.new result }
@@ -204,6 +205,7 @@ impl<S: Store> Editor<S> {
         self.shown.clear();
         clear(flags);
         self.serves()?;
+        // a loop is shown on the way, so no conversion of the fault would do
         match make_edit(&mut self.board, edit, flags) {
             Ok(count) => Ok(count),
             Err(EditFault::Refused(refusal)) => Err(refusal),

@@ -146,6 +146,7 @@ fn pin_words<S: Store>(board: &StoredBoard<S>, signal: u32) -> [u32; 4]
 fn pins_on(words: [u32; 4]) -> Pins
     ensures { result.items ≡ nets_of words }
 {
+    // to collect them could fail, for want of a room that there is
     let mut nets = ArrayVec::new();
     for word in words {
         let Some(net) = word.checked_sub(1) else {
