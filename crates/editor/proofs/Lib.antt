@@ -1,6 +1,6 @@
 mod Alike
 mod Batches
-mod Calling
+pub mod Calling
 mod Emptied
 mod Instance
 mod Laid
