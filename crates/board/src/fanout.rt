@@ -1,6 +1,7 @@
 // The gates that a signal feeds, told from the chain of the pins on it.
 ghost use Rattle.std.specs.Prelude.{◌≡◌};
-ghost use Rattle.board.specs.Fanout.{gate_of_lem, upward as upward_of, rest_of, fed_by};
+ghost use Rattle.std.specs.Option.{unwrap_or};
+ghost use Rattle.board.specs.Fanout.{nowhere, gate_of_lem, upward as upward_of, rest_of, fed_by};
 
 use crate::field::Field;
 use crate::kind::Kind;
@@ -8,7 +9,7 @@ use crate::stored::StoredBoard;
 use reach::{Neighbour, Relation};
 use words::Store;
 
-// Leads nowhere.
+// What a pin tells that has no gate to tell: a search passes over a number that is no signal's.
 const NOWHERE: u32 = u32::MAX;
 
 // The gates that stand no further than `upto`, but the start. An edge is a link of a chain.
@@ -35,7 +36,7 @@ impl<S: Store> Relation for Fanout<'_, S> {
         }
         let link = self.board.read(Field::Next, pin);
         Some(Neighbour {
-            number: self.gate_of(pin),
+            number: self.gate_of(pin).unwrap_or(NOWHERE),
             next: upward(edge, link),
         })
     }
@@ -43,17 +44,14 @@ impl<S: Store> Relation for Fanout<'_, S> {
 
 impl<S: Store> Fanout<'_, S> {
     // Whom a pin belongs to, if that is a gate to tell.
-    fn gate_of(&self, pin: u32) -> u32
-        ensures { result ≡ gate_of_lem self.now.board.now.signals self.now.board.now.words.image self.now.upto self.now.start pin }
+    fn gate_of(&self, pin: u32) -> Option<u32>
+        ensures { unwrap_or result nowhere ≡ gate_of_lem self.now.board.now.signals self.now.board.now.words.image self.now.upto self.now.start pin }
     {
         let signal = pin / 4;
         if self.board.read_kind(signal) != Kind::Gate || signal == self.start {
-            return NOWHERE;
+            return None;
         }
-        if self.upto < self.board.read(Field::Seat, signal) {
-            return NOWHERE;
-        }
-        signal
+        (self.board.read(Field::Seat, signal) <= self.upto).then_some(signal)
     }
 }
 

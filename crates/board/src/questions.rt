@@ -1,5 +1,5 @@
 // What a board tells of a signal.
-ghost use Rattle.std.specs.Prelude.{◌≡◌, ◌<◌, ◌≤◌, length, Decides};
+ghost use Rattle.std.specs.Prelude.{◌≡◌, ◌<◌, true, ◌⊎◌, Decides};
 ghost use Rattle.netlist.specs.Netlist.{absent, driver_of, output_of, pins_of, Used};
 ghost use Rattle.netlist.specs.Edits.{Pinned};
 ghost use Rattle.board.specs.Board.{netlist_of, Sound};
@@ -46,5 +46,12 @@ impl<S: Store> StoredBoard<S> {
         ensures { signal < self.now.signals → result ≡ output_of (netlist_of self.now.signals self.now.words.image) signal }
     {
         self.read(Field::Output, signal) == 1
+    }
+
+    // A pin is on the signal, or it is an output.
+    pub fn is_wanted(&self, signal: u32) -> bool
+        ensures { signal < self.now.signals → Sound self.now.signals self.now.words.image → Decides result (Used (netlist_of self.now.signals self.now.words.image) signal ⊎ (output_of (netlist_of self.now.signals self.now.words.image) signal ≡ true)) }
+    {
+        self.is_used(signal) || self.is_output(signal)
     }
 }

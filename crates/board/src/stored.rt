@@ -140,6 +140,7 @@ impl<S: Store> StoredBoard<S> {
         ensures cleared { Cleared self.old.words self.new.words }
         ensures only { OnlyWords self.old self.new }
     {
+        // a store lends no slice of its words
         for at in 0..self.size() {
             self.put(at, 0);
         }

@@ -15,6 +15,7 @@ use Rattle.netlist.specs.Netlist.{Netlist, Loop}
 use Rattle.netlist.specs.Edits.{Edits, asked, puts_of, signal_of}
 use Rattle.board.specs.Board.{board_of, netlist_of, order_of}
 use Rattle.board.specs.Standing.{Stands, Inside}
+use Rattle.board.specs.Stored.{Stored, Stays}
 
 -- where edits are made: a board that is in order, and a level is left
 pub record Workable (m : ℕ) (a : Meaning) : Type 0 where
@@ -55,3 +56,9 @@ pub record Makes (m : ℕ) (before : Meaning) (e : Edit) (after : Meaning) (r : 
   pub stands : Stands m after.image
   pub inside : Inside before after
   pub untouched : Untouched before after r
+
+-- An edit that puts no pin: whatever refuses it is seen at once, and M and the memory behind the store stay.
+pub record MakesPlain (before : Stored) (e : Edit) (after : Stored) (r : Result ℕ Refusal) : Type 0 where
+  pub makes : Workable before.signals before.words → Makes before.signals before.words e after.words r
+  pub early : Workable before.signals before.words → Early r
+  pub stays : Stays before after

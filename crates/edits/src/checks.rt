@@ -25,16 +25,17 @@ pub(crate) fn check<S: Store>(board: &StoredBoard<S>, edit: Edit) -> Result<(), 
     if unranged(edit) {
         return Err(Refusal::OutOfRange);
     }
-    if driven_already(board, edit) {
+    let asked = Asked { board, edit };
+    if asked.driven_already() {
         return Err(Refusal::Driven);
     }
-    if wrong_kind(board, edit) {
+    if asked.wrong_kind() {
         return Err(Refusal::NotDriven);
     }
-    if pin_beyond(board, edit) {
+    if asked.pin_beyond() {
         return Err(Refusal::NoSuchPin);
     }
-    if still_used(board, edit) {
+    if asked.still_used() {
         return Err(Refusal::InUse);
     }
     Ok(())
@@ -84,44 +85,52 @@ fn unranged(edit: Edit) -> bool
     }
 }
 
-fn driven_already<S: Store>(board: &StoredBoard<S>, edit: Edit) -> bool
-    ensures { Decides result (DrivenAlready (netlist_of board.now.signals board.now.words.image) edit) }
-{
-    match edit {
-        Edit::Input { signal } | Edit::Gate { signal, .. } | Edit::Latch { signal, .. } => {
-            !board.is_absent(signal)
+// An edit that is asked of a board which has the signal that it changes.
+#[derive(Drop)]
+struct Asked<'a, S: Store> {
+    board: &'a StoredBoard<S>,
+    edit: Edit,
+    ghost inside: { signal_of edit < board.now.signals },
+}
+
+impl<S: Store> Asked<'_, S> {
+    fn driven_already(&self) -> bool
+        ensures { Decides result (DrivenAlready (netlist_of self.now.board.now.signals self.now.board.now.words.image) self.now.edit) }
+    {
+        match self.edit {
+            Edit::Input { signal } | Edit::Gate { signal, .. } | Edit::Latch { signal, .. } => {
+                !self.board.is_absent(signal)
+            }
+            _ => false,
         }
-        _ => false,
     }
-}
 
-fn wrong_kind<S: Store>(board: &StoredBoard<S>, edit: Edit) -> bool
-    ensures { Decides result (WrongKind (netlist_of board.now.signals board.now.words.image) edit) }
-{
-    match edit {
-        Edit::Delete { signal } => board.is_absent(signal),
-        Edit::Move { signal, .. } => !board.has_pins(signal),
-        _ => false,
+    fn wrong_kind(&self) -> bool
+        ensures { Decides result (WrongKind (netlist_of self.now.board.now.signals self.now.board.now.words.image) self.now.edit) }
+    {
+        match self.edit {
+            Edit::Delete { signal } => self.board.is_absent(signal),
+            Edit::Move { signal, .. } => !self.board.has_pins(signal),
+            _ => false,
+        }
     }
-}
 
-fn pin_beyond<S: Store>(board: &StoredBoard<S>, edit: Edit) -> bool
-    requires { signal_of edit < board.now.signals }
-    ensures { board.now.signals ≤ 1024 → Sound board.now.signals board.now.words.image → Decides result (PinBeyond (netlist_of board.now.signals board.now.words.image) edit) }
-{
-    match edit {
-        Edit::Move { signal, pin, .. } => lacks_pin(board, signal, pin),
-        _ => false,
+    fn pin_beyond(&self) -> bool
+        ensures { self.now.board.now.signals ≤ 1024 → Sound self.now.board.now.signals self.now.board.now.words.image → Decides result (PinBeyond (netlist_of self.now.board.now.signals self.now.board.now.words.image) self.now.edit) }
+    {
+        match self.edit {
+            Edit::Move { signal, pin, .. } => lacks_pin(self.board, signal, pin),
+            _ => false,
+        }
     }
-}
 
-fn still_used<S: Store>(board: &StoredBoard<S>, edit: Edit) -> bool
-    requires { signal_of edit < board.now.signals }
-    ensures { Sound board.now.signals board.now.words.image → Decides result (StillUsed (netlist_of board.now.signals board.now.words.image) edit) }
-{
-    match edit {
-        Edit::Delete { signal } => board.is_used(signal) || board.is_output(signal),
-        _ => false,
+    fn still_used(&self) -> bool
+        ensures { Sound self.now.board.now.signals self.now.board.now.words.image → Decides result (StillUsed (netlist_of self.now.board.now.signals self.now.board.now.words.image) self.now.edit) }
+    {
+        match self.edit {
+            Edit::Delete { signal } => self.board.is_wanted(signal),
+            _ => false,
+        }
     }
 }
 

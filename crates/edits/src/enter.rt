@@ -47,13 +47,12 @@ pub(crate) fn enter_driver<S: Store>(
     attach_all(board, signal, pins, nets);
 }
 
-// The index of a net is the number of its pin.
 fn attach_all<S: Store>(board: &mut StoredBoard<S>, signal: u32, pins: u32, nets: [u32; 4])
     ensures attaches { Wirable board.old.signals board.old.words.image signal pins nets → Changed board.old.signals board.old.words.image signal (as_wired (cell_at board.old.signals board.old.words.image signal) pins nets) board.new.words.image }
     ensures only { OnlyWords board.old board.new }
 {
-    for i in 0..pins.min(4) {
-        board.attach(pin_number(signal, i), nets[i as usize]);
+    for (pin, net) in nets[..pins.min(4) as usize].iter().enumerate() {
+        board.attach(pin_number(signal, pin as u32), *net);
     }
 }
 
@@ -70,8 +69,8 @@ fn detach_all<S: Store>(board: &mut StoredBoard<S>, signal: u32)
     ensures detaches { Site board.old.signals board.old.words.image signal → Changed board.old.signals board.old.words.image signal (as_unwired (cell_at board.old.signals board.old.words.image signal) 4) board.new.words.image }
     ensures only { OnlyWords board.old board.new }
 {
-    for i in 0..4 {
-        release(board, pin_number(signal, i));
+    for pin in 0..4 {
+        release(board, pin_number(signal, pin));
     }
 }
 

@@ -7,7 +7,7 @@ ghost use Rattle.board.specs.Standing.{Stands};
 ghost use Rattle.board.specs.Stored.{Stays, OnlyWords};
 ghost use Rattle.edits.specs.Checks.{Passes, Plain};
 ghost use Rattle.edits.specs.Entered.{Entered};
-ghost use Rattle.edits.specs.Makes.{Workable, Makes, Placing, reply_of, Faults, Early};
+ghost use Rattle.edits.specs.Makes.{Workable, Makes, MakesPlain, Placing, reply_of, Faults};
 
 use crate::checks::check;
 use crate::enter::{enter_delete, enter_driver, enter_input, enter_move, enter_output};
@@ -19,7 +19,8 @@ use netlist::{Edit, Refusal};
 use reach::{Path, clear};
 use words::Store;
 
-// Replies with the sum of the counts of its puts.
+// Replies with the sum of the counts of its puts. The calls of edits ask nothing and are safe on any words; what they promise is for boards in
+// order with a level left (`Workable`), so that is a premise of clauses and no invariant.
 pub fn make_edit<S: Store>(
     board: &mut StoredBoard<S>,
     edit: Edit,
@@ -62,11 +63,11 @@ fn place<S: Store>(
     put_all(board, edit.signal(), nets.as_slice(), flags)
 }
 
+// An edit that puts no pin has a call of its own, which needs no flags: one call for all of them would ask its caller for such an edit.
+
 // An input drives the signal.
 pub fn add_input<S: Store>(board: &mut StoredBoard<S>, signal: u32) -> Result<u32, Refusal>
-    ensures makes { Workable board.old.signals board.old.words → Makes board.old.signals board.old.words (Input signal) board.new.words result }
-    ensures early { Workable board.old.signals board.old.words → Early result }
-    ensures stays { Stays board.old board.new }
+    ensures { MakesPlain board.old (Input signal) board.new result }
 {
     make_plain(board, Edit::Input { signal })
 }
@@ -77,9 +78,7 @@ pub fn mark_output<S: Store>(
     signal: u32,
     mark: u32,
 ) -> Result<u32, Refusal>
-    ensures makes { Workable board.old.signals board.old.words → Makes board.old.signals board.old.words (Output signal mark) board.new.words result }
-    ensures early { Workable board.old.signals board.old.words → Early result }
-    ensures stays { Stays board.old board.new }
+    ensures { MakesPlain board.old (Output signal mark) board.new result }
 {
     make_plain(board, Edit::Output { signal, mark })
 }
@@ -91,18 +90,14 @@ pub fn add_latch<S: Store>(
     net: u32,
     start: u32,
 ) -> Result<u32, Refusal>
-    ensures makes { Workable board.old.signals board.old.words → Makes board.old.signals board.old.words (Latch signal net start) board.new.words result }
-    ensures early { Workable board.old.signals board.old.words → Early result }
-    ensures stays { Stays board.old board.new }
+    ensures { MakesPlain board.old (Latch signal net start) board.new result }
 {
     make_plain(board, Edit::Latch { signal, net, start })
 }
 
 // The signal becomes absent.
 pub fn delete_signal<S: Store>(board: &mut StoredBoard<S>, signal: u32) -> Result<u32, Refusal>
-    ensures makes { Workable board.old.signals board.old.words → Makes board.old.signals board.old.words (Delete signal) board.new.words result }
-    ensures early { Workable board.old.signals board.old.words → Early result }
-    ensures stays { Stays board.old board.new }
+    ensures { MakesPlain board.old (Delete signal) board.new result }
 {
     make_plain(board, Edit::Delete { signal })
 }
@@ -110,9 +105,7 @@ pub fn delete_signal<S: Store>(board: &mut StoredBoard<S>, signal: u32) -> Resul
 // An edit that puts no pin is not taken back midway: it needs no level.
 fn make_plain<S: Store>(board: &mut StoredBoard<S>, edit: Edit) -> Result<u32, Refusal>
     requires { Plain edit }
-    ensures makes { Workable board.old.signals board.old.words → Makes board.old.signals board.old.words edit board.new.words result }
-    ensures early { Workable board.old.signals board.old.words → Early result }
-    ensures stays { Stays board.old board.new }
+    ensures { MakesPlain board.old edit board.new result }
 {
     check(board, edit)?;
     enter(board, edit);

@@ -1,5 +1,5 @@
 -- What an edit asks for, when it is refused, and what it leaves.
-use Rattle.std.specs.Prelude.{◌≡◌, ℕ, ◌^◌, ◌<◌, ◌≤◌, true, ◌⊎◌, List, [], ◌∷◌, length, take, Ok, Err, Result, ◌==◌, slice_set}
+use Rattle.std.specs.Prelude.{◌≡◌, ℕ, ◌^◌, ◌<◌, ◌≤◌, Bool, true, false, ◌⊎◌, List, [], ◌∷◌, length, take, Ok, Err, Result, ◌==◌, slice_set}
 use Rattle.reach.specs.Reach.{Among}
 use Rattle.netlist.specs.declared.edit.Edit.{Edit}
 use Rattle.netlist.specs.declared.edit.Edit.TheVariants.{Input, Output, Gate, Latch, Delete, Move}
@@ -54,6 +54,15 @@ puts_of n (Gate s k nets table) = take k nets
 puts_of n (Latch s net start) = []
 puts_of n (Delete s) = []
 puts_of n (Move s i a) = placed (driver_of n s) a
+
+-- whether an edit may put a pin
+abbrev pub may_put : Edit → Bool
+may_put (Input s) = false
+may_put (Output s v) = false
+may_put (Gate s k nets table) = true
+may_put (Latch s net start) = false
+may_put (Delete s) = false
+may_put (Move s i a) = true
 
 -- ---- when it is refused
 

@@ -1,6 +1,6 @@
 // The edits of a netlist as values, and the refusals of the editor.
 ghost use Rattle.std.specs.Prelude.{◌≡◌};
-ghost use Rattle.netlist.specs.Edits.{signal_of};
+ghost use Rattle.netlist.specs.Edits.{may_put as may_put_pin, signal_of};
 ghost use Rattle.netlist.specs.Refusals.{number as number_of};
 
 #[derive(Clone, Copy, PartialEq, Eq, Debug)]
@@ -47,6 +47,13 @@ impl Edit {
             | Edit::Delete { signal }
             | Edit::Move { signal, .. } => signal,
         }
+    }
+
+    // Whether it may put a pin, and so is handed flags.
+    pub fn may_put(self) -> bool
+        ensures { result ≡ may_put_pin self }
+    {
+        matches!(self, Edit::Gate { .. } | Edit::Move { .. })
     }
 }
 

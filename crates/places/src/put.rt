@@ -9,7 +9,8 @@ use board::{Fanout, Field, StoredBoard};
 use reach::{Path, Search, clear};
 use words::Store;
 
-// The pin is in the netlist already. Replies with how many signals moved, or with the loop that the netlist has.
+// The pin is in the netlist already. Replies with how many signals moved, or with the loop that the netlist has. Flags are a host's plain
+// array, so each call that is lent them says that they are 0 after it.
 pub fn put_pin<S: Store>(
     board: &mut StoredBoard<S>,
     gate: u32,

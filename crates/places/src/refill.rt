@@ -49,6 +49,7 @@ fn fill_held<S: Store>(board: &mut StoredBoard<S>, from: u32, held: &[u32])
     ensures writes { needed board.old.signals ≤ length board.old.words.image → from + length held.now ≤ board.old.signals → Reordered board.old.signals board.old.words.image (take from (order_of board.old.signals board.old.words.image) ++ (held.now ++ drop (from + length held.now) (order_of board.old.signals board.old.words.image))) board.new.words.image }
     ensures only { OnlyWords board.old board.new }
 {
+    // a range zipped with the signals needs a proof of its own that none is left over
     for (i, signal) in held.iter().enumerate() {
         board.write(Field::Holder, from + i as u32, *signal);
     }

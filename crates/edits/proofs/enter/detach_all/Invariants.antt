@@ -2,8 +2,8 @@ use Rattle.board.specs.Stored.{OnlyWords}
 use Rattle.edits.specs.Cells.{Site, Changed, cell_at, as_unwired}
 use Rattle.edits.proofs.enter.detach_all.Given as goal
 
-abbrev pub invariant-loop-i : goal.invariant-loop-i
-invariant-loop-i g l =
+abbrev pub invariant-loop-pin : goal.invariant-loop-pin
+invariant-loop-pin g l =
     let m = l.initial.board.signals in
     let ws = l.initial.board.words.image in
-    (Site m ws l.signal → Changed m ws l.signal (as_unwired (cell_at m ws l.signal) l.i) l.board.words.image) × OnlyWords l.initial.board l.board
+    (Site m ws l.signal → Changed m ws l.signal (as_unwired (cell_at m ws l.signal) l.pin) l.board.words.image) × OnlyWords l.initial.board l.board

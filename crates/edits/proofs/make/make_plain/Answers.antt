@@ -1,14 +1,19 @@
+use Rattle.std.proofs.Common.{refl}
 use Rattle.words.specs.Meaning.{levels}
 use Rattle.board.specs.Board.{netlist_of}
 use Rattle.edits.proofs.Whole.{passes, plain_placing, made_ok}
 use Rattle.edits.proofs.make.make_plain.Goals as goal
 
-pub returns-clause-makes : goal.returns-clause-makes
-returns-clause-makes g c =
+pub returns : goal.returns
+returns g c =
     let b = c.args.board.now in
     let b₁ = c.enter.new.board in
-    λ w.
-    let checks = c.in_ok-check.ensures w.few w.stands.sound in
-    let p = passes b.signals (levels b.words) (netlist_of b.signals b.words.image) c.args.edit checks in
-    made_ok b.signals b.words b₁.words c.args.edit 0 w checks c.enter.ensures.only.inside
-    (plain_placing b.signals b.words.image c.args.edit b₁.words.image c.requires w.few w.stands p (c.enter.ensures.enters w.few w.stands p))
+    record {
+      makes = λ w.
+          let checks = c.in_ok-check.ensures w.few w.stands.sound in
+          let p = passes b.signals (levels b.words) (netlist_of b.signals b.words.image) c.args.edit checks in
+          made_ok b.signals b.words b₁.words c.args.edit 0 w checks c.enter.ensures.only.inside
+          (plain_placing b.signals b.words.image c.args.edit b₁.words.image c.requires w.few w.stands p (c.enter.ensures.enters w.few w.stands p));
+      early = λ w. refl;
+      stays = c.enter.ensures.only.stays;
+    }
