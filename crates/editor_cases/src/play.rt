@@ -6,7 +6,6 @@ use crate::fault::ensure;
 use crate::model::Model;
 use desk::Desk;
 use editor::Call;
-use netlist::Edit;
 use words::Store;
 
 // By which call an edit is made.
@@ -42,10 +41,10 @@ pub fn play<S: Store>(
     compare(desk.editor(), model).map_err(found)
 }
 
-// Of the calls by name those that put no pin take no flags.
+// Of the calls by name those of edits that put no pin take no flags.
 fn takes_flags(call: Call, way: Way) -> bool {
     match (call, way) {
-        (Call::Make(Edit::Gate { .. } | Edit::Move { .. }), Way::Named) => true,
+        (Call::Make(edit), Way::Named) => edit.may_put(),
         (Call::Make(_), Way::Any) => true,
         _ => false,
     }
