@@ -4,6 +4,7 @@ use Rattle.std.proofs.lemmas.Bool.{cases_lt}
 use Rattle.words.specs.Meaning.{Meaning, size, levels}
 use Rattle.netlist.specs.declared.edit.Refusal.{Refusal}
 use Rattle.netlist.specs.Edits.Applies.{no_batch}
+use Rattle.board.specs.Stored.{Stored}
 use Rattle.editor.specs.declared.call.Call.{Call}
 use Rattle.editor.specs.declared.call.Call.TheVariants.{Begin, Mark, KeepMark, DropMark, Keep, Drop, Make}
 use Rattle.editor.specs.declared.ticket.Ticket.{Ticket}
@@ -11,7 +12,7 @@ use Rattle.editor.specs.Calls.{Replies, Serves}
 use Rattle.editor.specs.Log.{Entry, HoldsSaved, Led}
 use Rattle.editor.specs.Made.{Starts}
 use Rattle.editor.specs.Making.{Fits}
-use Rattle.editor.specs.Steps.{Steps, Idle}
+use Rattle.editor.specs.Steps.{Steps, Idle, Called}
 use Rattle.desk.specs.Held.{Backed, Holds}
 use Rattle.desk.specs.Plays.{AtHand}
 
@@ -80,11 +81,15 @@ backed_by m a a' c (Err r) held held' serves hand backed =
 -- ---- the invariant of a desk
 
 -- after a call
-pub holds_by : (m m' : ℕ) (a a' : Meaning) (c : Call) (r : Result ℕ Refusal) (held held' : Option Ticket) → m' ≡ m → Idle m a c a' r → Steps m a c a' r → AtHand c held held' r
-    → Holds m a held → Holds m' a' held'
-holds_by m m' a a' c r held held' same idle steps hand h =
-    subst (λ n. Holds n a' held') (sym same)
-    (record { led = led_by m a a' c r held steps h; backed = backed_by m a a' c r held held' (serves_by m a a' c r held idle steps h) hand h.backed })
+pub holds_by : (b b' : Stored) (c : Call) (r : Result ℕ Refusal) (held held' : Option Ticket) → Called b c b' r → AtHand c held held' r → Holds b.signals b.words held
+    → Holds b'.signals b'.words held'
+holds_by b b' c r held held' called hand h =
+    let m = b.signals in
+    subst (λ n. Holds n b'.words held') (sym called.stays.signals)
+    (record {
+      led = led_by m b.words b'.words c r held called.steps h;
+      backed = backed_by m b.words b'.words c r held held' (serves_by m b.words b'.words c r held called.idle called.steps h) hand h.backed;
+    })
 
 -- a batch is begun only where no ticket is at hand
 pub none_begun : (m : ℕ) (a a' : Meaning) (count : ℕ) (held : Option Ticket) → Idle m a Begin a' (Ok count) → Steps m a Begin a' (Ok count) → Holds m a held → held ≡ None

@@ -2,26 +2,42 @@
 use Rattle.std.proofs.Common.{◌≡◌, ◌∙◌, ℕ, Some, None, Option, IsSome, is_some, Ok, Err, Result, sym, refl, ap, subst}
 use Rattle.netlist.specs.declared.edit.Refusal.{Refusal}
 use Rattle.editor.specs.declared.call.Call.{Call}
-use Rattle.editor.specs.declared.call.Call.TheVariants.{Keep, Drop}
+use Rattle.editor.specs.declared.call.Call.TheVariants.{Begin, Mark, KeepMark, DropMark, Keep, Drop, Make}
+use Rattle.editor.specs.declared.editor.Editor.{Editor}
 use Rattle.editor.specs.declared.ticket.Ticket.{Ticket}
 use Rattle.editor.specs.declared.ticket.Returned.{Returned}
-use Rattle.editor.specs.Steps.{Steps, Idle, HandsBack, closed}
+use Rattle.editor.specs.Steps.{Batched, HandsBack, closed}
+use Rattle.editor.proofs.Calling.{NoEdit}
 use Rattle.desk.specs.Held.{Holds, left}
 use Rattle.desk.specs.Plays.{AtHand, Displays, Hands, Plays, ticketless, with_ticket}
 use Rattle.desk.specs.State.{State}
 use Rattle.desk.proofs.Holding.{serves_by}
 use Rattle.desk.proofs.Ticketless.{keep_without, drop_without}
 
-pub plays : (d₀ d d' : State) (c : Call) (r : Result ℕ Refusal) → d ≡ d₀ → Idle d.signals d.store c d'.store r → Steps d.signals d.store c d'.store r → d'.signals ≡ d.signals
-    → d'.lent ≡ d.lent → Displays d c d' r → AtHand c d.held d'.held r → Holds d.signals d.store d.held → Plays d₀ c d' r
-plays d₀ d d' c r is idle steps signals behind shown hand h =
-    subst (λ x. Plays x c d' r) is
+-- a desk of an editor
+abbrev pub desk_of : {S : Type 0} → Editor S → Option Ticket → State
+desk_of e held = record { signals = e.board.signals; store = e.board.words; lent = e.board.lent; shown = e.shown; held = held }
+
+displays : (d d' : State) (c : Call) (r : Result ℕ Refusal) → NoEdit c → d'.shown ≡ d.shown → Displays d c d' r
+displays d d' Begin r none shown = shown
+displays d d' Mark r none shown = shown
+displays d d' KeepMark r none shown = shown
+displays d d' DropMark r none shown = shown
+displays d d' Keep r none shown = shown
+displays d d' Drop r none shown = shown
+displays d d' (Make e) r none shown = absurd none
+
+-- a call of batches and marks
+pub plays : {S : Type 0} (d₀ : State) (e e' : Editor S) (held held' : Option Ticket) (c : Call) (r : Result ℕ Refusal) → desk_of e held ≡ d₀ → NoEdit c → Batched e c e' r → AtHand c held held' r
+    → Holds e.board.signals e.board.words held → Plays d₀ c (desk_of e' held') r
+plays d₀ e e' held held' c r is none call hand h =
+    subst (λ x. Plays x c (desk_of e' held') r) is
     (record {
-      serves = serves_by d.signals d.store d'.store c r d.held idle steps h;
-      steps = steps;
-      signals = signals;
-      behind = behind;
-      shown = shown;
+      serves = serves_by e.board.signals e.board.words e'.board.words c r held call.called.idle call.called.steps h;
+      steps = call.called.steps;
+      signals = call.called.stays.signals;
+      behind = call.called.stays.behind;
+      shown = displays (desk_of e held) (desk_of e' held') c r none call.shown;
       hand = hand;
     })
 

@@ -6,12 +6,13 @@ use Rattle.words.specs.Meaning.{Meaning, levels}
 use Rattle.netlist.specs.declared.edit.Refusal.{Refusal}
 use Rattle.netlist.specs.declared.edit.Refusal.TheVariants.{NoEditor, NoBatch, BatchOpen, NoSuchSignal, OutOfRange, Driven, NotDriven, NoSuchPin, InUse, NoLevelForMark, NoMark, MarkOpen, AbsentInUse, Looped}
 use Rattle.netlist.specs.Refusals.{number}
+use Rattle.board.specs.Stored.{Stored}
 use Rattle.editor.specs.declared.call.Call.{Call}
 use Rattle.editor.specs.declared.ticket.Ticket.{Ticket}
 use Rattle.editor.specs.declared.ticket.Returned.{Returned}
 use Rattle.editor.specs.Calls.{Refuses, Replies, Serves}
 use Rattle.editor.specs.Plain.{plain}
-use Rattle.editor.specs.Steps.{Steps, Idle, HandsBack, closed}
+use Rattle.editor.specs.Steps.{Called, HandsBack, closed}
 use Rattle.desk.specs.Held.{Holds, left}
 use Rattle.desk.specs.Plays.{returned_with, ticketless, with_ticket}
 use Rattle.desk.specs.State.{State}
@@ -51,10 +52,12 @@ serves_closing (suc m) a a' c r some low shut h =
     let lt : 0 < suc m = omega arith in replies_ten (suc m) a a' c r (some (shut lt)) low (h.some lt)
 
 -- the other desk: its editor refuses, and is as it was
-pub refused_there : (m : ℕ) (a a' : Meaning) (c : Call) (r : Result ℕ Refusal) (held : Option Ticket) → (levels a ≡ 0 → Refuses m a c 10) → ((k : ℕ) → k < 10 → Refuses m a c k → ⊥)
-    → false ≡ is_some held → Idle m a c a' r → Steps m a c a' r → Holds m a held → (r ≡ Err (ticketless m)) × (a' ≡ a)
-refused_there m a a' c r None some low shut idle steps h = serves_closing m a a' c r some low h.backed (serves_by m a a' c r None idle steps h)
-refused_there m a a' c r (Some ticket) some low shut idle steps h = absurd cc
+pub refused_there : (b b' : Stored) (c : Call) (r : Result ℕ Refusal) (held : Option Ticket) → (levels b.words ≡ 0 → Refuses b.signals b.words c 10)
+    → ((k : ℕ) → k < 10 → Refuses b.signals b.words c k → ⊥) → false ≡ is_some held → Called b c b' r → Holds b.signals b.words held
+    → (r ≡ Err (ticketless b.signals)) × (b'.words ≡ b.words)
+refused_there b b' c r None some low shut called h =
+    serves_closing b.signals b.words b'.words c r some low h.backed (serves_by b.signals b.words b'.words c r None called.idle called.steps h)
+refused_there b b' c r (Some ticket) some low shut called h = absurd cc
 
 -- the desk: its ticket is back
 pub back_at_hand : (r : Result (Unit {0}) Returned) (t : Refusal) (held held' : Option Ticket) (ticket : Ticket) → closed r ≡ Err t → HandsBack ticket r → Some ticket ≡ held → held' ≡ left r

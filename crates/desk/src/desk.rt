@@ -90,6 +90,7 @@ impl<S: Store> Desk<S> {
         }
     }
 
+    // It and `keep` differ in one call of the editor; a closure over that would need a contract as long as either.
     pub fn drop_batch(&mut self) -> Result<(), Refusal>
         ensures plays { Plays self.old Drop self.new (plain result) }
         ensures without { self.old.held ≡ None → result ≡ Err (ticketless self.old.signals) }
@@ -173,7 +174,7 @@ impl<S: Store> Desk<S> {
         closed(&mut self.held, other.editor.keep(ticket)).err()
     }
 
-    // The same when it is to drop.
+    // The same when it is to drop; likewise apart.
     pub fn drop_at<B: Store>(&mut self, other: &mut Desk<B>) -> Option<Refusal>
         ensures told { result ≡ returned_with self.old.held other.old.signals other.old.held }
         ensures own { self.new ≡ self.old }
@@ -198,6 +199,7 @@ impl<S: Store> Desk<S> {
     }
 }
 
+// A reply without a count as one with 0. Neither side is a type of this crate, so it is no `From`.
 fn uncounted(reply: Result<(), Refusal>) -> Result<u32, Refusal>
     ensures { result ≡ plain reply }
 {
@@ -215,7 +217,7 @@ fn put(held: &mut Option<Ticket>, ticket: Ticket)
     }
 }
 
-// Puts back the ticket of a keep or a drop that was refused.
+// Puts back the ticket of a keep or a drop that was refused. A closure for `map_err` that does so would need all of this contract.
 fn closed(held: &mut Option<Ticket>, reply: Result<(), Returned>) -> Result<(), Refusal>
     requires { held.old ≡ None }
     ensures hand { held.new ≡ left reply }

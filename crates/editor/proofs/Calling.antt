@@ -9,8 +9,9 @@ use Rattle.netlist.specs.Netlist.{Netlist, Loop}
 use Rattle.netlist.specs.Edits.{asked}
 use Rattle.board.specs.Board.{netlist_of, Sound}
 use Rattle.board.specs.Stored.{Stored, Stays}
-use Rattle.edits.specs.Makes.{Workable, Makes, Early}
+use Rattle.edits.specs.Makes.{Workable, Makes, MakesPlain}
 use Rattle.editor.specs.declared.call.Call.{Call}
+use Rattle.editor.specs.declared.editor.Editor.{Editor}
 use Rattle.editor.specs.declared.call.Call.TheVariants.{Begin, Mark, KeepMark, DropMark, Keep, Drop, Make}
 use Rattle.editor.specs.Calls.{Replies}
 use Rattle.editor.specs.Shown.{SmallestFirst}
@@ -44,27 +45,27 @@ edit_called b b' e r some makes stays = record {
   stays = stays;
 }
 
-pub edited_early : (b b' : Stored) (e : Edit) (r : Result ℕ Refusal) (shown : List ℕ) → 0 < b.signals → (Workable b.signals b.words → Makes b.signals b.words e b'.words r)
-    → (Workable b.signals b.words → Early r) → shown ≡ [] → Stays b b' → Edited b e b' r shown
-edited_early b b' e r shown some makes early gone stays = record {
-  called = edit_called b b' e r some makes stays;
-  shows = shows_early b.signals b.signals b.words e r shown refl early gone;
+pub edited_early : {S : Type 0} (a a' : Editor S) (e : Edit) (r : Result ℕ Refusal) → 0 < a.board.signals → MakesPlain a.board e a'.board r → a'.shown ≡ [] → Edited a e a' r
+edited_early a a' e r some h gone = record {
+  called = edit_called a.board a'.board e r some h.makes h.stays;
+  shows = shows_early a.board.signals a.board.signals a.board.words e r a'.shown refl h.early gone;
   hidden = λ _. gone;
 }
 
-pub edited : (b b' : Stored) (e : Edit) (count : ℕ) (shown : List ℕ) → 0 < b.signals → (Workable b.signals b.words → Makes b.signals b.words e b'.words (Ok count))
-    → shown ≡ [] → Stays b b' → Edited b e b' (Ok count) shown
-edited b b' e count shown some makes gone stays = record {
-  called = edit_called b b' e (Ok count) some makes stays;
+pub edited : {S : Type 0} (a a' : Editor S) (e : Edit) (count : ℕ) → 0 < a.board.signals → (Workable a.board.signals a.board.words → Makes a.board.signals a.board.words e a'.board.words (Ok count))
+    → a'.shown ≡ [] → Stays a.board a'.board → Edited a e a' (Ok count)
+edited a a' e count some makes gone stays = record {
+  called = edit_called a.board a'.board e (Ok count) some makes stays;
   shows = λ _ _. gone;
   hidden = λ _. gone;
 }
 
-pub edited_looped : (b b' : Stored) (e : Edit) (path : Path) (shown : List ℕ) → 0 < b.signals → (Workable b.signals b.words → Makes b.signals b.words e b'.words (Err Looped))
-    → (Workable b.signals b.words → Loop (asked (netlist_of b.signals b.words.image) e) (along path))
-    → ((n : Netlist) → Loop n (along path) → Loop n shown × SmallestFirst shown) → Stays b b' → Edited b e b' (Err Looped) shown
-edited_looped b b' e path shown some makes loops shows stays = record {
-  called = edit_called b b' e (Err Looped) some makes stays;
-  shows = shows_loop b.signals b.signals b.words e path shown refl loops shows;
+pub edited_looped : {S : Type 0} (a a' : Editor S) (e : Edit) (path : Path) → 0 < a.board.signals
+    → (Workable a.board.signals a.board.words → Makes a.board.signals a.board.words e a'.board.words (Err Looped))
+    → (Workable a.board.signals a.board.words → Loop (asked (netlist_of a.board.signals a.board.words.image) e) (along path))
+    → ((n : Netlist) → Loop n (along path) → Loop n a'.shown × SmallestFirst a'.shown) → Stays a.board a'.board → Edited a e a' (Err Looped)
+edited_looped a a' e path some makes loops shows stays = record {
+  called = edit_called a.board a'.board e (Err Looped) some makes stays;
+  shows = shows_loop a.board.signals a.board.signals a.board.words e path a'.shown refl loops shows;
   hidden = λ z. absurd (omega (arith, z));
 }

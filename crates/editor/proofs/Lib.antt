@@ -1,13 +1,12 @@
 mod Alike
 mod Batches
-mod Calling
+pub mod Calling
 mod Emptied
 mod Instance
 mod Laid
 pub mod Led
 mod Pinned
 mod Rotation
-mod Room
 mod Scanned
 mod Starting
 mod Stepping

@@ -1,10 +1,10 @@
 -- A loop that is turned is a loop.
 use Rattle.std.proofs.Common.{◌≡◌, ℕ, suc, ◌+◌, ◌-◌, ◌<◌, ◌≤◌, ◌⊎◌, List, [], ◌∷◌, ◌++◌, length, get_or, take, drop, sym, refl, ap, ◌∙◌, subst, inl, inr, ⊎_elim, arith}
-use Rattle.std.proofs.lemmas.List.{append-nil, length-append, length-take, length-drop, take-append-drop, take_all, take_rest, drop_more}
+use Rattle.std.proofs.lemmas.List.{append-nil, take_all, take-append-drop, drop_all, drop_more}
+use Rattle.std.specs.List.{refill}
 use Rattle.reach.specs.Reach.{Among}
 use Rattle.netlist.specs.Netlist.{Netlist, Different, Feeding, Loop}
 use Rattle.editor.specs.Shown.{SmallestFirst}
-use Rattle.editor.proofs.Room.{take_again}
 
 -- ---- numbers among a list
 
@@ -98,19 +98,6 @@ smallest_turned k xs lt least =
     let (j, below, e) = among_at y xs (subst (Among y) (take-append-drop k xs) back) in
     omega (arith, least j below, e))
 
-turned_long : (k : ℕ) (xs : List ℕ) → length (turned k xs) ≡ length xs
-turned_long k xs = length-append (drop k xs) (take k xs) ∙ (let a = length-drop k xs in let b = length-take k xs in omega arith)
-
--- the two parts added one after the other, to none
-pub shows_turned : (k : ℕ) (xs none first second : List ℕ) → length xs ≤ 1024 → none ≡ []
-    → (length none ≤ 1024 → first ≡ take 1024 (none ++ take (length xs - k) (drop k xs)))
-    → (length first ≤ 1024 → second ≡ take 1024 (first ++ take k xs)) → second ≡ turned k xs
-shows_turned k xs none first second few z a b =
-    let one : first ≡ take 1024 (drop k xs) = a (omega (arith, ap length z)) ∙ ap (λ l. take 1024 (l ++ take (length xs - k) (drop k xs))) z ∙ ap (take 1024) (take_rest xs k) in
-    b (omega (arith, ap length one, length-take 1024 (drop k xs)))
-    ∙ ap (λ l. take 1024 (l ++ take k xs)) one ∙ take_again 1024 (drop k xs) (take k xs)
-    ∙ take_all 1024 (turned k xs) (omega (arith, turned_long k xs))
-
 pub shows_loop : (n : Netlist) (k : ℕ) (xs shown : List ℕ) → (0 < length xs → k < length xs) → ((j : ℕ) → j < length xs → get_or xs k 0 ≤ get_or xs j 0)
     → shown ≡ turned k xs → Loop n xs → Loop n shown × SmallestFirst shown
 shows_loop n k xs shown one least e h =
@@ -118,3 +105,8 @@ shows_loop n k xs shown one least e h =
       subst (Loop n) (sym e) (loop_turned n k xs lt h),
       subst SmallestFirst (sym e) (smallest_turned k xs lt least),
     )
+
+-- what is written back over as many numbers is all that is left
+pub refilled_whole : (xs ys : List ℕ) → length ys ≡ length xs → refill (length xs) xs ys ≡ ys
+refilled_whole xs ys e =
+    ap (λ l. take (length xs) (ys ++ l)) (drop_all (length ys) xs (omega (arith, e))) ∙ ap (take (length xs)) (append-nil ys) ∙ take_all (length xs) ys (omega (arith, e))

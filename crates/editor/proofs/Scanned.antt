@@ -1,14 +1,8 @@
--- The signals in use, one after another.
-use Rattle.std.proofs.Common.{◌≡◌, ℕ, Bool, true, not, eqb, ◌⊎◌, Decides, sym, ◌∙◌, inl, inr, ⊎_elim}
-use Rattle.std.proofs.lemmas.Bool.{both_ways, eq-eqb, ne_eqb, not_from_true, not_from_false}
+-- The first number of a range that has a property, where none beyond the range has it.
+use Rattle.std.proofs.Common.{◌≡◌, ℕ, ◌<◌, ◌≤◌, Some, None, Option, MatchOption, arith}
 
--- a test of two parts, at its first part
-pub first_decides : (w : ℕ) (P Q : Type 0) → Decides (not (eqb w 0)) P → (w ≡ 0 → ⊥) → Decides (not (eqb w 0)) (P ⊎ Q)
-first_decides w P Q h ne = (λ t. inl (h.0 t), λ _. not_from_false (eqb w 0) (ne_eqb w 0 ne))
-
--- and at its second
-pub second_decides : (w : ℕ) (b o : Bool) (P : Type 0) → Decides (not (eqb w 0)) P → w ≡ 0 → b ≡ o → Decides b (P ⊎ (o ≡ true))
-second_decides w b o P h z e = (
-  λ t. inr (sym e ∙ t),
-  ⊎_elim (λ p. absurd (both_ways (not (eqb w 0)) (not_from_true (eqb w 0) (eq-eqb w 0 z)) (h.1 p))) (λ t. e ∙ t),
-)
+pub first_of_all : (m end : ℕ) (P : ℕ → Type 0) (r : Option ℕ) → end ≡ m → ((s : ℕ) → P s → s < m)
+    → MatchOption r ((k : ℕ) → 0 ≤ k → k < end → k < m → P k → ⊥) (λ i. (0 ≤ i) × (i < end) × (i < m → P i) × ((k : ℕ) → 0 ≤ k → k < i → k < m → P k → ⊥))
+    → MatchOption r ((s : ℕ) → P s → ⊥) (λ s. P s × ((t : ℕ) → t < s → P t → ⊥))
+first_of_all m end P None e below h = λ s p. h s (omega arith) (omega (arith, e, below s p)) (below s p) p
+first_of_all m end P (Some i) e below h = (h.2 (omega (arith, e, h.1)), λ t lt p. h.3 t (omega arith) lt (below t p) p)

@@ -7,6 +7,7 @@ use Rattle.board.specs.Board.{netlist_of}
 use Rattle.board.specs.Stored.{Stored, Stays}
 use Rattle.editor.specs.declared.call.Call.{Call}
 use Rattle.editor.specs.declared.call.Call.TheVariants.{Make}
+use Rattle.editor.specs.declared.editor.Editor.{Editor}
 use Rattle.editor.specs.declared.ticket.Ticket.{Ticket}
 use Rattle.editor.specs.declared.ticket.Returned.{Returned}
 use Rattle.editor.specs.Calls.{Serves}
@@ -31,11 +32,16 @@ pub record Called (before : Stored) (c : Call) (after : Stored) (r : Result ℕ 
   pub idle : Idle before.signals before.words c after.words r
   pub stays : Stays before after
 
+-- A call of batches and marks leaves the loop that is shown.
+pub record Batched {S : Type 0} (before : Editor S) (c : Call) (after : Editor S) (r : Result ℕ Refusal) : Type 0 where
+  pub called : Called before.board c after.board r
+  pub shown : after.shown ≡ before.shown
+
 -- An edit, and the loop that is shown after it: none by an editor of no signals.
-pub record Edited (before : Stored) (e : Edit) (after : Stored) (r : Result ℕ Refusal) (shown : List ℕ) : Type 0 where
-  pub called : Called before (Make e) after r
-  pub shows : ShowsLoop before.signals before.words e r shown
-  pub hidden : before.signals ≡ 0 → shown ≡ []
+pub record Edited {S : Type 0} (before : Editor S) (e : Edit) (after : Editor S) (r : Result ℕ Refusal) : Type 0 where
+  pub called : Called before.board (Make e) after.board r
+  pub shows : ShowsLoop before.board.signals before.board.words e r after.shown
+  pub hidden : before.board.signals ≡ 0 → after.shown ≡ []
 
 -- ---- replies that carry a ticket
 

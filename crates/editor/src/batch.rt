@@ -1,8 +1,7 @@
 // Batches and marks over a store: a batch is its first open level, every further level is a mark.
-ghost use Rattle.std.specs.Prelude.{◌≡◌, ℕ, ◌<◌, ◌≤◌, true, ◌⊎◌, Decides, MatchOption, MatchResult};
+ghost use Rattle.std.specs.Prelude.{◌≡◌, ℕ, ◌<◌, ◌≤◌, Decides, MatchOption, MatchResult};
 ghost use Rattle.words.specs.Meaning.{levels as levels_of};
 ghost use Rattle.netlist.specs.Refusals.{number};
-ghost use Rattle.netlist.specs.Netlist.{output_of, Used};
 ghost use Rattle.board.specs.Board.{netlist_of, Sound};
 ghost use Rattle.board.specs.Stored.{Stays};
 ghost use Rattle.editor.specs.declared.call.Call.TheVariants.{Begin, Mark, KeepMark, DropMark, Keep, Drop};
@@ -111,25 +110,11 @@ pub(crate) fn keep_batch<S: Store>(board: &mut StoredBoard<S>) -> Result<(), Ref
 pub(crate) fn smallest_missing<S: Store>(board: &StoredBoard<S>) -> Option<u32>
     ensures { Sound board.now.signals board.now.words.image → MatchOption result ((s : ℕ) → Missing board.now.signals (netlist_of board.now.signals board.now.words.image) s → ⊥) (λ s. Missing board.now.signals (netlist_of board.now.signals board.now.words.image) s × ((t : ℕ) → t < s → Missing board.now.signals (netlist_of board.now.signals board.now.words.image) t → ⊥)) }
 {
-    for signal in 0..board.signals() {
-        if is_missing(board, signal) {
-            return Some(signal);
-        }
-    }
-    None
+    (0..board.signals()).find(|signal| is_missing(board, *signal))
 }
 
 fn is_missing<S: Store>(board: &StoredBoard<S>, signal: u32) -> bool
-    requires { signal < board.now.signals }
-    ensures { Sound board.now.signals board.now.words.image → Decides result (Missing board.now.signals (netlist_of board.now.signals board.now.words.image) signal) }
+    ensures { signal < board.now.signals → Sound board.now.signals board.now.words.image → Decides result (Missing board.now.signals (netlist_of board.now.signals board.now.words.image) signal) }
 {
-    board.is_absent(signal) && is_wanted(board, signal)
-}
-
-// A pin is on the signal, or it is an output.
-fn is_wanted<S: Store>(board: &StoredBoard<S>, signal: u32) -> bool
-    requires { signal < board.now.signals }
-    ensures { Sound board.now.signals board.now.words.image → Decides result (Used (netlist_of board.now.signals board.now.words.image) signal ⊎ (output_of (netlist_of board.now.signals board.now.words.image) signal ≡ true)) }
-{
-    board.is_used(signal) || board.is_output(signal)
+    board.is_absent(signal) && board.is_wanted(signal)
 }

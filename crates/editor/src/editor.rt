@@ -5,7 +5,7 @@ ghost use Rattle.netlist.specs.declared.edit.Refusal.TheVariants.{NoEditor};
 ghost use Rattle.editor.specs.declared.call.Call.TheVariants.{Begin, Mark, KeepMark, DropMark, Keep, Drop};
 ghost use Rattle.editor.specs.Made.{Tests, Starts};
 ghost use Rattle.editor.specs.Plain.{plain};
-ghost use Rattle.editor.specs.Steps.{Called, Edited, begun, closed, HandsBack};
+ghost use Rattle.editor.specs.Steps.{Batched, Edited, begun, closed, HandsBack};
 
 use crate::batch::{drop_batch, drop_mark, keep_batch, keep_mark, open_batch, open_mark};
 use crate::making::{fits, lay_empty};
@@ -69,8 +69,7 @@ impl<S: Store> Editor<S> {
     // ---- batches and marks
 
     pub fn begin(&mut self) -> Result<Ticket, Refusal>
-        ensures called { Called self.old.board Begin self.new.board (begun result) }
-        ensures shown { self.new.shown ≡ self.old.shown }
+        ensures { Batched self.old Begin self.new (begun result) }
     {
         self.serves()?;
         open_batch(&mut self.board)?;
@@ -78,32 +77,28 @@ impl<S: Store> Editor<S> {
     }
 
     pub fn mark(&mut self) -> Result<(), Refusal>
-        ensures called { Called self.old.board Mark self.new.board (plain result) }
-        ensures shown { self.new.shown ≡ self.old.shown }
+        ensures { Batched self.old Mark self.new (plain result) }
     {
         self.serves()?;
         open_mark(&mut self.board)
     }
 
     pub fn keep_mark(&mut self) -> Result<(), Refusal>
-        ensures called { Called self.old.board KeepMark self.new.board (plain result) }
-        ensures shown { self.new.shown ≡ self.old.shown }
+        ensures { Batched self.old KeepMark self.new (plain result) }
     {
         self.serves()?;
         keep_mark(&mut self.board)
     }
 
     pub fn drop_mark(&mut self) -> Result<(), Refusal>
-        ensures called { Called self.old.board DropMark self.new.board (plain result) }
-        ensures shown { self.new.shown ≡ self.old.shown }
+        ensures { Batched self.old DropMark self.new (plain result) }
     {
         self.serves()?;
         drop_mark(&mut self.board)
     }
 
     pub fn keep(&mut self, ticket: Ticket) -> Result<(), Returned>
-        ensures called { Called self.old.board Keep self.new.board (closed result) }
-        ensures shown { self.new.shown ≡ self.old.shown }
+        ensures batched { Batched self.old Keep self.new (closed result) }
         ensures back { HandsBack ticket result }
     {
         let reply = self.close_keeping();
@@ -111,34 +106,32 @@ impl<S: Store> Editor<S> {
     }
 
     fn close_keeping(&mut self) -> Result<(), Refusal>
-        ensures called { Called self.old.board Keep self.new.board (plain result) }
-        ensures shown { self.new.shown ≡ self.old.shown }
+        ensures { Batched self.old Keep self.new (plain result) }
     {
         self.serves()?;
         keep_batch(&mut self.board)
     }
 
     pub fn drop_batch(&mut self, ticket: Ticket) -> Result<(), Returned>
-        ensures called { Called self.old.board Drop self.new.board (closed result) }
-        ensures shown { self.new.shown ≡ self.old.shown }
+        ensures batched { Batched self.old Drop self.new (closed result) }
         ensures back { HandsBack ticket result }
     {
         let reply = self.close_dropping();
         ticket.settle(reply)
     }
 
+    // It and `close_keeping` differ in one call on the board; a closure that changes it would need a contract as long as either.
     fn close_dropping(&mut self) -> Result<(), Refusal>
-        ensures called { Called self.old.board Drop self.new.board (plain result) }
-        ensures shown { self.new.shown ≡ self.old.shown }
+        ensures { Batched self.old Drop self.new (plain result) }
     {
         self.serves()?;
         drop_batch(&mut self.board)
     }
 
-    // ---- edits
+    // ---- edits, each by its name, and any as a value
 
     pub fn input(&mut self, signal: u32) -> Result<u32, Refusal>
-        ensures { Edited self.old.board (Input signal) self.new.board result self.new.shown }
+        ensures { Edited self.old (Input signal) self.new result }
     {
         self.shown.clear();
         self.serves()?;
@@ -146,7 +139,7 @@ impl<S: Store> Editor<S> {
     }
 
     pub fn output(&mut self, signal: u32, mark: u32) -> Result<u32, Refusal>
-        ensures { Edited self.old.board (Output signal mark) self.new.board result self.new.shown }
+        ensures { Edited self.old (Output signal mark) self.new result }
     {
         self.shown.clear();
         self.serves()?;
@@ -154,7 +147,7 @@ impl<S: Store> Editor<S> {
     }
 
     pub fn latch(&mut self, signal: u32, net: u32, start: u32) -> Result<u32, Refusal>
-        ensures { Edited self.old.board (Latch signal net start) self.new.board result self.new.shown }
+        ensures { Edited self.old (Latch signal net start) self.new result }
     {
         self.shown.clear();
         self.serves()?;
@@ -162,7 +155,7 @@ impl<S: Store> Editor<S> {
     }
 
     pub fn delete(&mut self, signal: u32) -> Result<u32, Refusal>
-        ensures { Edited self.old.board (Delete signal) self.new.board result self.new.shown }
+        ensures { Edited self.old (Delete signal) self.new result }
     {
         self.shown.clear();
         self.serves()?;
@@ -177,7 +170,7 @@ impl<S: Store> Editor<S> {
         table: u32,
         flags: &mut [u8; 1024],
     ) -> Result<u32, Refusal>
-        ensures edited { Edited self.old.board (Gate signal pins nets table) self.new.board result self.new.shown }
+        ensures edited { Edited self.old (Gate signal pins nets table) self.new result }
         ensures clean { flags.new ≡ replicate 1024 0 }
     {
         self.make(
@@ -198,7 +191,7 @@ impl<S: Store> Editor<S> {
         net: u32,
         flags: &mut [u8; 1024],
     ) -> Result<u32, Refusal>
-        ensures edited { Edited self.old.board (Move signal pin net) self.new.board result self.new.shown }
+        ensures edited { Edited self.old (Move signal pin net) self.new result }
         ensures clean { flags.new ≡ replicate 1024 0 }
     {
         self.make(Edit::Move { signal, pin, net }, flags)
@@ -206,12 +199,13 @@ impl<S: Store> Editor<S> {
 
     // Any edit, as a value.
     pub fn make(&mut self, edit: Edit, flags: &mut [u8; 1024]) -> Result<u32, Refusal>
-        ensures edited { Edited self.old.board edit self.new.board result self.new.shown }
+        ensures edited { Edited self.old edit self.new result }
         ensures clean { flags.new ≡ replicate 1024 0 }
     {
         self.shown.clear();
         clear(flags);
         self.serves()?;
+        // a loop is shown on the way, so no conversion of the fault would do
         match make_edit(&mut self.board, edit, flags) {
             Ok(count) => Ok(count),
             Err(EditFault::Refused(refusal)) => Err(refusal),

@@ -139,18 +139,14 @@ fn table_at<S: Store>(board: &StoredBoard<S>, signal: u32) -> Option<Table>
 fn pin_words<S: Store>(board: &StoredBoard<S>, signal: u32) -> [u32; 4]
     ensures { result ≡ pin_words_lem board.now.signals board.now.words.image signal }
 {
-    [
-        board.pin(signal, 0),
-        board.pin(signal, 1),
-        board.pin(signal, 2),
-        board.pin(signal, 3),
-    ]
+    [0, 1, 2, 3].map(|pin| board.pin(signal, pin))
 }
 
 // The signals that pins are on, up to the first pin that is on none.
 fn pins_on(words: [u32; 4]) -> Pins
     ensures { result.items ≡ nets_of words }
 {
+    // to collect them could fail, for want of a room that there is
     let mut nets = ArrayVec::new();
     for word in words {
         let Some(net) = word.checked_sub(1) else {

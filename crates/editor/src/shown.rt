@@ -1,5 +1,5 @@
 // The loop that is shown of an edit that was refused for it, its smallest number first.
-ghost use Rattle.std.specs.Prelude.{◌≡◌, ℕ, ◌<◌, ◌≤◌, List, [], ◌∷◌, ◌++◌, length, take, slice_index};
+ghost use Rattle.std.specs.Prelude.{◌≡◌, ℕ, ◌<◌, ◌≤◌, List, [], length, slice_index};
 ghost use Rattle.reach.specs.Listed.{along};
 ghost use Rattle.netlist.specs.Netlist.{Netlist, Loop};
 ghost use Rattle.editor.specs.Shown.{SmallestFirst};
@@ -41,31 +41,15 @@ impl Shown {
         let numbers = path.numbers();
         let from = smallest_at(numbers);
         self.clear();
-        self.append(&numbers[from..]);
-        self.append(&numbers[..from]);
+        // there is room for every path
+        let _ = self.numbers.try_extend_from_slice(numbers);
+        self.numbers.as_mut_slice().rotate_left(from);
     }
 
     pub(crate) fn numbers(&self) -> &[u32]
         ensures { result.now ≡ self.now }
     {
         self.numbers.as_slice()
-    }
-
-    // More numbers at the end, as far as there is room.
-    fn append(&mut self, more: &[u32])
-        ensures { length self.old ≤ 1024 → self.new ≡ take 1024 (self.old ++ more.now) }
-    {
-        for number in more {
-            self.push(*number);
-        }
-    }
-
-    fn push(&mut self, number: u32)
-        ensures { self.new ≡ take 1024 (self.old ++ number ∷ []) }
-    {
-        if self.numbers.len() < 1024 {
-            self.numbers.push(number);
-        }
     }
 }
 

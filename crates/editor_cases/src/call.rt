@@ -2,7 +2,7 @@
 use editor::Call;
 use netlist::Refusal;
 
-// M and D of an editor.
+// M and D of an editor, D in the type of a store's levels; in `console` it is a number that was read.
 #[derive(Clone, Copy)]
 pub struct Shape {
     pub signals: u32,

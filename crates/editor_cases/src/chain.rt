@@ -1,10 +1,14 @@
 // Chains of 1,024 signals, in which a put moves many.
+use crate::call::Reply;
 use crate::compare::{is_kind, stands_at};
-use crate::outcome::Outcome;
+use crate::difference::Difference;
+use crate::fault::ensure;
+use crate::report::Report;
 use desk::Desk;
 use editor::{Editor, Kind};
-use memory::Memory;
+use memory::{Memory, Pair};
 use netlist::{Edit, Refusal};
+use std::alloc::{AllocError, Global};
 use std::iter;
 use words::Store;
 
@@ -23,8 +27,8 @@ enum Direction {
     Forward,
 }
 
-// Adds a gate of one pin.
-fn add<S: Store>(desk: &mut Desk<S>, signal: u32, net: u32) -> Result<u32, Refusal> {
+// Adds a gate of one pin, for which a reply is owed.
+fn add<S: Store>(desk: &mut Desk<S>, signal: u32, net: u32, owed: Reply) -> Result<(), Difference> {
     let mut flags = [0; 1024];
     let gate = Edit::Gate {
         signal,
@@ -32,17 +36,7 @@ fn add<S: Store>(desk: &mut Desk<S>, signal: u32, net: u32) -> Result<u32, Refus
         nets: [net, 0, 0, 0],
         table: 2,
     };
-    desk.make_named(gate, &mut flags)
-}
-
-// Gate n is on n + 1: each stands before the signal that it is on, so that a put moves all gates entered before.
-fn enter_backward<S: Store>(desk: &mut Desk<S>) -> bool {
-    (0..LAST).all(|signal| add(desk, signal, signal + 1) == Ok(signal + 1))
-}
-
-// Gate n is on n - 1, so that nothing moves; then one put moves all gates.
-fn enter_forward<S: Store>(desk: &mut Desk<S>) -> bool {
-    (1..LAST).all(|signal| add(desk, signal, signal - 1) == Ok(0)) && add(desk, 0, LAST) == Ok(LAST)
+    ensure(desk.make_named(gate, &mut flags) == owed, Difference::Reply)
 }
 
 fn stands_backward<S: Store>(editor: &Editor<S>) -> bool {
@@ -67,21 +61,28 @@ fn shows_all(shown: &[u32]) -> bool {
         .eq(shown.iter().copied())
 }
 
-fn build_backward<S: Store>(desk: &mut Desk<S>) -> bool {
-    let entered = enter_backward(desk);
-    let looped = add(desk, LAST, 0) == Err(Refusal::Looped);
-    let editor = desk.editor();
-    entered && looped && shows_all(editor.loop_shown()) && stands_backward(editor)
-}
-
-fn build_forward<S: Store>(desk: &mut Desk<S>) -> bool {
-    enter_forward(desk) && stands_behind_last(desk.editor())
-}
-
-fn build<S: Store>(desk: &mut Desk<S>, direction: Direction) -> bool {
-    if desk.begin().is_err() {
-        return false;
+// Gate n is on n + 1: each stands before the signal that it is on, so that a put moves all gates entered before. The last closes the loop.
+fn build_backward<S: Store>(desk: &mut Desk<S>) -> Result<(), Difference> {
+    for signal in 0..LAST {
+        add(desk, signal, signal + 1, Ok(signal + 1))?;
     }
+    add(desk, LAST, 0, Err(Refusal::Looped))?;
+    let editor = desk.editor();
+    ensure(shows_all(editor.loop_shown()), Difference::Loop)?;
+    ensure(stands_backward(editor), Difference::Order)
+}
+
+// Gate n is on n - 1, so that nothing moves; then one put moves all gates.
+fn build_forward<S: Store>(desk: &mut Desk<S>) -> Result<(), Difference> {
+    for signal in 1..LAST {
+        add(desk, signal, signal - 1, Ok(0))?;
+    }
+    add(desk, 0, LAST, Ok(LAST))?;
+    ensure(stands_behind_last(desk.editor()), Difference::Order)
+}
+
+fn build<S: Store>(desk: &mut Desk<S>, direction: Direction) -> Result<(), Difference> {
+    desk.begin()?;
     match direction {
         Direction::Backward => build_backward(desk),
         Direction::Forward => build_forward(desk),
@@ -89,29 +90,33 @@ fn build<S: Store>(desk: &mut Desk<S>, direction: Direction) -> bool {
 }
 
 // Builds a chain in a batch, and drops it: each signal is back at its place.
-fn try_on<S: Store + Drop>(store: S, direction: Direction) -> bool {
+fn try_on<S: Store + Drop>(store: S, direction: Direction) -> Result<(), Difference> {
     let mut desk = Desk::new(store, SIGNALS);
     let built = build(&mut desk, direction);
     let editor = desk.close();
-    built && is_empty(&editor)
+    built?;
+    ensure(is_empty(&editor), Difference::Order)
 }
 
-fn try_on_both(rt: &HostRuntime, direction: Direction) -> anyhow::Result<Outcome> {
-    let mut memory = Memory::new(rt.alloc(), SIZE, LIMIT, 7)?;
-    Ok(Outcome {
+fn try_on_both(
+    heap: Global,
+    direction: Direction,
+) -> Result<Pair<Result<(), Difference>>, AllocError> {
+    let mut memory = Memory::new(heap, SIZE, LIMIT, 7)?;
+    Ok(Pair {
         log: try_on(memory.log(), direction),
         snapshot: try_on(memory.snapshot(), direction),
     })
 }
 
-pub fn try_chains(rt: &HostRuntime) -> anyhow::Result<bool> {
-    let backward = try_on_both(rt, Direction::Backward)?.report(
-        rt,
-        "chain of 1024 entered backward, each put moving all before, then closed",
+pub fn try_chains(report: &mut Report) -> anyhow::Result<()> {
+    let heap = report.rt.alloc();
+    report.case(
+        "chain of 1024 entered backward, each put moving all before, then closed:",
+        try_on_both(heap, Direction::Backward)?,
     )?;
-    let forward = try_on_both(rt, Direction::Forward)?.report(
-        rt,
-        "chain of 1023 entered forward, then moved by one put",
-    )?;
-    Ok(backward && forward)
+    report.case(
+        "chain of 1023 entered forward, then moved by one put:",
+        try_on_both(heap, Direction::Forward)?,
+    )
 }

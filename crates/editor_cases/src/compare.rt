@@ -1,44 +1,10 @@
 // What an editor tells, against the model.
+use crate::difference::Difference;
+use crate::fault::ensure;
 use crate::model::Model;
 use crate::plain_board::{Board, Driver, Gate, Latch, Signal, is_loop, missing};
 use editor::{Editor, Kind};
-use std::fmt::{self, Display, Formatter, Write};
 use words::Store;
-
-// The first thing in which an editor differs from the model.
-#[derive(Clone, Copy)]
-pub enum Difference {
-    // the model does not reply what is written down
-    Model,
-    Reply,
-    Flags,
-    Signals,
-    Levels,
-    Order,
-    Netlist,
-    Missing,
-    Loop,
-}
-
-impl Display for Difference {
-    fn fmt<W: Write>(&self, f: &mut Formatter<W>) -> fmt::Result {
-        f.write_str(match self {
-            Difference::Model => "the model",
-            Difference::Reply => "the reply",
-            Difference::Flags => "a flag left set",
-            Difference::Signals => "the number of signals",
-            Difference::Levels => "the levels",
-            Difference::Order => "the order",
-            Difference::Netlist => "the netlist",
-            Difference::Missing => "the absent signal in use",
-            Difference::Loop => "the loop shown",
-        })
-    }
-}
-
-pub fn ensure<E: Drop>(holds: bool, otherwise: E) -> Result<(), E> {
-    if holds { Ok(()) } else { Err(otherwise) }
-}
 
 pub fn compare<S: Store>(editor: &Editor<S>, model: &Model) -> Result<(), Difference> {
     let board = &model.board;
@@ -84,21 +50,22 @@ pub fn stands_at<S: Store>(editor: &Editor<S>, signal: u32, place: u32) -> bool 
 fn same_signals<S: Store>(editor: &Editor<S>, signals: &[Signal]) -> bool {
     (0..editor.signals())
         .zip(signals)
-        .all(|(number, signal)| same_signal(editor, number, *signal))
+        .all(|(number, signal)| same_signal(editor, number, signal))
 }
 
-fn same_signal<S: Store>(editor: &Editor<S>, number: u32, signal: Signal) -> bool {
-    if editor.output_mark(number) != Some(signal.output) {
-        return false;
-    }
-    match signal.driver {
+fn same_signal<S: Store>(editor: &Editor<S>, number: u32, signal: &Signal) -> bool {
+    editor.output_mark(number) == Some(signal.output) && same_driver(editor, number, &signal.driver)
+}
+
+fn same_driver<S: Store>(editor: &Editor<S>, number: u32, driver: &Driver) -> bool {
+    match driver {
         Driver::Absent => is_kind(editor, number, Kind::Absent),
         Driver::Input => is_kind(editor, number, Kind::Input),
         Driver::Gate(gate) => {
             is_kind(editor, number, Kind::Gate) && same_gate(editor, number, gate)
         }
         Driver::Latch(latch) => {
-            is_kind(editor, number, Kind::Latch) && same_latch(editor, number, latch)
+            is_kind(editor, number, Kind::Latch) && same_latch(editor, number, *latch)
         }
     }
 }
@@ -107,19 +74,22 @@ pub fn is_kind<S: Store>(editor: &Editor<S>, number: u32, kind: Kind) -> bool {
     editor.kind(number) == Some(kind)
 }
 
-fn same_gate<S: Store>(editor: &Editor<S>, number: u32, gate: Gate) -> bool {
-    editor.table(number).is_some_and(|table| table.pins() == gate.pins
-        && table.bits() == gate.table)
-        && editor
-            .pins(number)
-            .is_some_and(|pins| pins.as_slice() == gate.on())
+fn same_gate<S: Store>(editor: &Editor<S>, number: u32, gate: &Gate) -> bool {
+    let pins = gate.nets.len() as u32;
+    editor
+        .table(number)
+        .is_some_and(|table| table.pins() == pins && table.bits() == gate.table)
+        && same_pins(editor, number, gate.nets.as_slice())
 }
 
 fn same_latch<S: Store>(editor: &Editor<S>, number: u32, latch: Latch) -> bool {
-    editor.start(number) == Some(latch.start)
-        && editor
-            .pins(number)
-            .is_some_and(|pins| pins.as_slice() == [latch.net].as_slice())
+    editor.start(number) == Some(latch.start) && same_pins(editor, number, &[latch.net])
+}
+
+fn same_pins<S: Store>(editor: &Editor<S>, number: u32, nets: &[u32]) -> bool {
+    editor
+        .pins(number)
+        .is_some_and(|pins| pins.as_slice() == nets)
 }
 
 fn same_loop<S: Store>(editor: &Editor<S>, looped: &Option<Board>) -> bool {

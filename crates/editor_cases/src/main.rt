@@ -4,26 +4,27 @@
 mod call;
 mod chain;
 mod compare;
+mod difference;
+mod fault;
 mod makings;
 mod model;
-mod outcome;
 mod plain_board;
 mod plain_places;
 mod plan;
 mod play;
+mod report;
 mod tables;
 mod tickets;
 mod trial;
 
-use anyhow::anyhow;
+use anyhow::ensure;
 use call::Shape;
 use chain::try_chains;
 use makings::try_makings;
-use outcome::Outcome;
+use memory::Pair;
 use plan::{Random, Row, Table};
 use play::Way;
-use std::alloc::Global;
-use std::collections::BTreeMap;
+use report::Report;
 use tables::{
     ABSENT, FOUR_PINS, MOST, NO_MARK, NONE, REFUSALS, SIX_MARKS, SMALLEST, TAKEN_BACK, WORKED,
 };
@@ -36,119 +37,88 @@ const CALLS: u32 = 500;
 
 // One table: the model alone, and each store's editor beside the model, by the names of the edits and by the call that takes any.
 fn try_table(
-    rt: &HostRuntime,
+    report: &mut Report,
     name: &str,
     signals: u32,
     limit: usize,
     rows: &[Row],
-) -> anyhow::Result<bool> {
-    let shape = Shape { signals, limit };
-    let model = model_meets(rt.alloc(), shape, rows)?;
-    let named = try_on_both(rt, shape, Table(rows), Way::Named)?.outcome();
-    let any = try_on_both(rt, shape, Table(rows), Way::Any)?.outcome();
-    let outcome = named.and(any);
-    print_table(rt, name, shape, rows.len(), model, outcome)?;
-    Ok(model && outcome.good())
-}
-
-fn model_meets(heap: Global, shape: Shape, rows: &[Row]) -> anyhow::Result<bool> {
-    Ok(try_model(heap, shape, Table(rows))?)
-}
-
-fn print_table(
-    rt: &HostRuntime,
-    name: &str,
-    shape: Shape,
-    calls: usize,
-    model: bool,
-    outcome: Outcome,
 ) -> anyhow::Result<()> {
-    let Shape { signals, limit } = shape;
-    println!(rt; "{name}: M {signals}, D {limit}, {calls} calls: model {model}, {outcome}")?;
-    Ok(())
+    let heap = report.rt.alloc();
+    let shape = Shape { signals, limit };
+    let model = try_model(heap, shape, Table(rows))?.is_ok();
+    let named = try_on_both(heap, shape, Table(rows), Way::Named)?;
+    let any = try_on_both(heap, shape, Table(rows), Way::Any)?;
+    let verdicts = Pair {
+        log: named.log.verdict.and(any.log.verdict),
+        snapshot: named.snapshot.verdict.and(any.snapshot.verdict),
+    };
+    let calls = rows.len();
+    report.case(
+        format_args!("{name}: M {signals}, D {limit}, {calls} calls: model {model},"),
+        verdicts,
+    )
 }
 
-fn try_rules(rt: &HostRuntime) -> anyhow::Result<bool> {
-    let worked = try_table(rt, "worked case", 5, 3, &WORKED)?;
-    let refusals = try_table(rt, "each refusal", 4, 4, &REFUSALS)?;
-    let absent = try_table(rt, "absent signals in use", 4, 3, &ABSENT)?;
-    let smallest = try_table(rt, "the smallest number", 4, 3, &SMALLEST)?;
-    let taken_back = try_table(rt, "taken back", 3, 3, &TAKEN_BACK)?;
-    Ok(worked && refusals && absent && smallest && taken_back)
+fn try_rules(report: &mut Report) -> anyhow::Result<()> {
+    try_table(report, "worked case", 5, 3, &WORKED)?;
+    try_table(report, "each refusal", 4, 4, &REFUSALS)?;
+    try_table(report, "absent signals in use", 4, 3, &ABSENT)?;
+    try_table(report, "the smallest number", 4, 3, &SMALLEST)?;
+    try_table(report, "taken back", 3, 3, &TAKEN_BACK)
 }
 
-fn try_edges(rt: &HostRuntime) -> anyhow::Result<bool> {
-    let four_pins = try_table(rt, "four pins on one signal", 6, 3, &FOUR_PINS)?;
-    let no_mark = try_table(rt, "no level for a mark", 1, 2, &NO_MARK)?;
-    let six_marks = try_table(rt, "six marks", 2, 8, &SIX_MARKS)?;
-    let most = try_table(rt, "most signals", 1024, 2, &MOST)?;
-    let none = try_table(rt, "a signal too many", 1025, 2, &NONE)?;
-    Ok(four_pins && no_mark && six_marks && most && none)
+fn try_edges(report: &mut Report) -> anyhow::Result<()> {
+    try_table(report, "four pins on one signal", 6, 3, &FOUR_PINS)?;
+    try_table(report, "no level for a mark", 1, 2, &NO_MARK)?;
+    try_table(report, "six marks", 2, 8, &SIX_MARKS)?;
+    try_table(report, "most signals", 1024, 2, &MOST)?;
+    try_table(report, "a signal too many", 1025, 2, &NONE)
 }
 
 // M from 1 to 24, D from 2 to 8.
-fn try_seed(rt: &HostRuntime, seed: u32) -> anyhow::Result<bool> {
+fn try_seed(report: &mut Report, seed: u32) -> anyhow::Result<()> {
+    let heap = report.rt.alloc();
     let shape = Shape {
         signals: seed,
         limit: 2 + (seed % 7) as usize,
     };
     let way = if seed % 2 == 0 { Way::Named } else { Way::Any };
-    let trials = try_on_both(rt, shape, Random::new(seed, CALLS), way)?;
-    print_seed(rt, shape, &trials.log, trials.outcome())?;
-    Ok(trials.outcome().good())
+    let Shape { signals, limit } = shape;
+    let Pair { log, snapshot } = try_on_both(heap, shape, Random::new(seed, CALLS), way)?;
+    let Trial { tally, verdict } = log;
+    let verdicts = Pair {
+        log: verdict,
+        snapshot: snapshot.verdict,
+    };
+    let calls = tally.calls();
+    report.case(
+        format_args!("random: M {signals}, D {limit}, {calls} calls: {tally};"),
+        verdicts,
+    )
 }
 
-fn print_seed(
-    rt: &HostRuntime,
-    shape: Shape,
-    trial: &Trial,
-    outcome: Outcome,
-) -> anyhow::Result<()> {
-    let Shape { signals, limit } = shape;
-    let calls = trial.calls();
-    let accepted = trial.accepted;
-    let moved = trial.moved;
-    let refused = refused_text(rt.alloc(), &trial.refused)?;
-    println!(rt;
-        "random: M {signals}, D {limit}, {calls} calls: {accepted} accepted, {moved} moved; refused{refused}; {outcome}"
+fn try_random(report: &mut Report) -> anyhow::Result<()> {
+    let before = report.differing;
+    for seed in 0..SEEDS {
+        try_seed(report, seed + 1)?;
+    }
+    let differing = report.differing.saturating_sub(before);
+    println!(report.rt;
+        "random: {SEEDS} runs over both stores, {differing} with a difference from the model"
     )?;
     Ok(())
 }
 
-// Each number that was given, and how many times.
-fn refused_text(heap: Global, refused: &BTreeMap<u32, u32>) -> anyhow::Result<String> {
-    let mut text = String::new(heap);
-    for (number, count) in refused {
-        write!(text, " {number} x {count}")?;
-    }
-    Ok(text)
-}
-
-fn try_random(rt: &HostRuntime) -> anyhow::Result<bool> {
-    let mut differing: u32 = 0;
-    for seed in 0..SEEDS {
-        if !try_seed(rt, seed + 1)? {
-            differing = differing.saturating_add(1);
-        }
-    }
-    println!(rt;
-        "random: {SEEDS} runs over both stores, {differing} with a difference from the model"
-    )?;
-    Ok(differing == 0)
-}
-
 fn run(rt: &HostRuntime) -> anyhow::Result<()> {
-    let rules = try_rules(rt)?;
-    let edges = try_edges(rt)?;
-    let makings = try_makings(rt)?;
-    let tickets = try_tickets(rt)?;
-    let chains = try_chains(rt)?;
-    let random = try_random(rt)?;
-    if rules && edges && makings && tickets && chains && random {
-        Ok(())
-    } else {
-        Err(anyhow!("an editor differs from the rules"))
-    }
+    let mut report = Report { rt, differing: 0 };
+    try_rules(&mut report)?;
+    try_edges(&mut report)?;
+    try_makings(&mut report)?;
+    try_tickets(&mut report)?;
+    try_chains(&mut report)?;
+    try_random(&mut report)?;
+    ensure!(report.differing == 0, "an editor differs from the rules");
+    Ok(())
 }
 
 fn main(rt: HostRuntime) -> anyhow::Result<()> {

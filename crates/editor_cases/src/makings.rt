@@ -1,7 +1,9 @@
 // Which stores and numbers of signals serve an editor.
-use crate::outcome::Outcome;
+use crate::difference::Difference;
+use crate::fault::{Fault, ensure, settle};
+use crate::report::Report;
 use editor::Editor;
-use memory::Memory;
+use memory::{Memory, Pair};
 use netlist::Refusal;
 use std::alloc::Global;
 use words::Store;
@@ -66,41 +68,43 @@ static MAKINGS: [Making; 8] = [
     },
 ];
 
-// Whether the test and the making do as they should: a store that does not serve is left alone.
-fn is_made<S: Store + Drop>(store: S, making: Making) -> bool {
-    let mut store = store;
+// The test and the making of an editor: a store that does not serve is left alone.
+fn try_making<S: Store + Drop>(mut store: S, making: Making) -> Result<(), Difference> {
     for _ in 0..making.opened {
         let _ = store.open_level();
     }
     let _ = store.set(0, 5);
     let test = Editor::test(&store, making.signals);
+    ensure(test == making.answer, Difference::Test)?;
+    let signals = making.answer.map_or(0, |()| making.signals);
     let editor = Editor::new(store, making.signals);
-    let signals = if making.answer.is_ok() {
-        making.signals
-    } else {
-        0
-    };
-    test == making.answer && editor.signals() == signals
+    ensure(editor.signals() == signals, Difference::Signals)
 }
 
-fn is_made_on_both(heap: Global, making: Making) -> anyhow::Result<Outcome> {
-    let mut memory = Memory::new(heap, making.size, 2, 7)?;
-    Ok(Outcome {
-        log: is_made(memory.log(), making),
-        snapshot: is_made(memory.snapshot(), making),
-    })
-}
-
-pub fn try_makings(rt: &HostRuntime) -> anyhow::Result<bool> {
-    let mut outcome = Outcome {
-        log: true,
-        snapshot: true,
-    };
+// Each making over memory of its own, until there is a difference.
+fn try_each<F: Fn(&mut Memory, Making) -> Result<(), Difference>>(
+    heap: Global,
+    make: F,
+) -> Result<(), Fault<Difference>>
+    requires { F.IsAlwaysCallable make }
+{
     for making in &MAKINGS {
-        outcome = outcome.and(is_made_on_both(rt.alloc(), *making)?);
+        let mut memory = Memory::new(heap, making.size, 2, 7)?;
+        make(&mut memory, *making).map_err(Fault::Told)?;
     }
-    outcome.report(
-        rt,
-        "makings: M 1 and 1024 serve; M 0 and 1025, a word too few, a level open give 1",
+    Ok(())
+}
+
+pub fn try_makings(report: &mut Report) -> anyhow::Result<()> {
+    let heap = report.rt.alloc();
+    let log = try_each(heap, |memory, making| try_making(memory.log(), making));
+    let snapshot = try_each(heap, |memory, making| try_making(memory.snapshot(), making));
+    let verdicts = Pair {
+        log: settle(log)?,
+        snapshot: settle(snapshot)?,
+    };
+    report.case(
+        "makings: M 1 and 1024 serve; M 0 and 1025, a word too few, a level open give 1:",
+        verdicts,
     )
 }

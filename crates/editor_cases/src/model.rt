@@ -1,30 +1,11 @@
 // The rules of the editor on plain lists: a level is a copy of the whole board.
 use crate::call::{Reply, Shape};
-use crate::compare::ensure;
-use crate::plain_board::{Board, Driver, Gate, Latch, in_use, missing};
+use crate::fault::{Fault, ensure, settle};
+use crate::plain_board::{Board, Driver, Gate, Latch, SIGNALS_MOST, in_use, missing};
 use crate::plain_places::put;
 use editor::Call;
 use netlist::{Edit, Refusal};
 use std::alloc::{AllocError, Global};
-
-// Why a call is not played to its end.
-#[derive(Clone, Copy)]
-enum Fault {
-    Refused(Refusal),
-    NoMemory(AllocError),
-}
-
-impl From<Refusal> for Fault {
-    fn from(refusal: Refusal) -> Fault {
-        Fault::Refused(refusal)
-    }
-}
-
-impl From<AllocError> for Fault {
-    fn from(error: AllocError) -> Fault {
-        Fault::NoMemory(error)
-    }
-}
 
 #[derive(Drop)]
 pub struct Model {
@@ -39,7 +20,7 @@ pub struct Model {
 impl Model {
     // An editor of a shape that none can have has no signals.
     pub fn new(heap: Global, shape: Shape) -> Result<Model, AllocError> {
-        let serves = shape.signals <= 1024 && 2 <= shape.limit && shape.limit <= 8;
+        let serves = shape.signals <= SIGNALS_MOST && 2 <= shape.limit && shape.limit <= 8;
         let signals = if serves { shape.signals } else { 0 };
         Ok(Model {
             signals,
@@ -55,30 +36,72 @@ impl Model {
     }
 
     pub fn play(&mut self, heap: Global, call: Call) -> Result<Reply, AllocError> {
-        match self.call(heap, call) {
-            Ok(count) => Ok(Ok(count)),
-            Err(Fault::Refused(refusal)) => Ok(Err(refusal)),
-            Err(Fault::NoMemory(error)) => Err(error),
-        }
+        settle(self.call(heap, call))
     }
 
-    fn call(&mut self, heap: Global, call: Call) -> Result<u32, Fault> {
-        if let Call::Make(edit) = call {
-            return self.edit(heap, edit);
-        }
-        self.admits(call)?;
+    // Refused by the smallest number that applies.
+    fn call(&mut self, heap: Global, call: Call) -> Result<u32, Fault<Refusal>> {
+        ensure(self.signals > 0, Refusal::NoEditor)?;
         match call {
-            Call::Begin | Call::Mark => self.open_level()?,
-            Call::KeepMark | Call::Keep => {
-                let _ = self.saved.pop();
-            }
-            Call::DropMark => self.take_back(),
-            Call::Drop | Call::Make(_) => {
-                self.saved.truncate(1);
-                self.take_back();
-            }
+            Call::Begin => self.begin()?,
+            Call::Mark => self.mark()?,
+            Call::KeepMark => self.keep_mark()?,
+            Call::DropMark => self.drop_mark()?,
+            Call::Keep => self.keep()?,
+            Call::Drop => self.drop_batch()?,
+            Call::Make(edit) => return self.make(heap, edit),
         }
         Ok(0)
+    }
+
+    fn begin(&mut self) -> Result<(), Fault<Refusal>> {
+        ensure(self.levels() == 0, Refusal::BatchOpen)?;
+        self.open_level()?;
+        Ok(())
+    }
+
+    fn mark(&mut self) -> Result<(), Fault<Refusal>> {
+        self.needs_batch()?;
+        let levels = self.levels().saturating_add(1);
+        ensure(levels < self.limit, Refusal::NoLevelForMark)?;
+        self.open_level()?;
+        Ok(())
+    }
+
+    fn keep_mark(&mut self) -> Result<(), Refusal> {
+        self.needs_mark()?;
+        let _ = self.saved.pop();
+        Ok(())
+    }
+
+    fn drop_mark(&mut self) -> Result<(), Refusal> {
+        self.needs_mark()?;
+        self.take_back();
+        Ok(())
+    }
+
+    fn keep(&mut self) -> Result<(), Refusal> {
+        self.needs_batch()?;
+        ensure(self.levels() < 2, Refusal::MarkOpen)?;
+        ensure(missing(&self.board.signals).is_none(), Refusal::AbsentInUse)?;
+        let _ = self.saved.pop();
+        Ok(())
+    }
+
+    fn drop_batch(&mut self) -> Result<(), Refusal> {
+        self.needs_batch()?;
+        self.saved.truncate(1);
+        self.take_back();
+        Ok(())
+    }
+
+    fn needs_batch(&self) -> Result<(), Refusal> {
+        ensure(self.levels() > 0, Refusal::NoBatch)
+    }
+
+    fn needs_mark(&self) -> Result<(), Refusal> {
+        self.needs_batch()?;
+        ensure(self.levels() > 1, Refusal::NoMark)
     }
 
     fn open_level(&mut self) -> Result<(), AllocError> {
@@ -94,45 +117,26 @@ impl Model {
         }
     }
 
-    // Refused by the smallest number that applies to a call that is no edit.
-    fn admits(&self, call: Call) -> Result<(), Refusal> {
-        ensure(self.signals > 0, Refusal::NoEditor)?;
-        if let Call::Begin = call {
-            return ensure(self.levels() == 0, Refusal::BatchOpen);
-        }
-        ensure(self.levels() > 0, Refusal::NoBatch)?;
-        match call {
-            Call::Mark => ensure(
-                self.levels().saturating_add(1) < self.limit,
-                Refusal::NoLevelForMark,
-            ),
-            Call::KeepMark | Call::DropMark => ensure(self.levels() > 1, Refusal::NoMark),
-            Call::Keep => self.admits_keep(),
-            _ => Ok(()),
-        }
-    }
-
-    fn admits_keep(&self) -> Result<(), Refusal> {
-        ensure(self.levels() < 2, Refusal::MarkOpen)?;
-        ensure(missing(&self.board.signals).is_none(), Refusal::AbsentInUse)
-    }
-
-    fn edit(&mut self, heap: Global, edit: Edit) -> Result<u32, Fault> {
+    fn make(&mut self, heap: Global, edit: Edit) -> Result<u32, Fault<Refusal>> {
         self.looped = None;
-        self.admits_edit(edit)?;
+        self.needs_batch()?;
+        self.admits(edit)?;
         let mut asked = self.board.clone()?;
-        let Some(count) = change(heap, &mut asked, edit)? else {
-            self.looped = Some(asked);
-            return Err(Fault::Refused(Refusal::Looped));
-        };
-        self.board = asked;
-        Ok(count)
+        match change(heap, &mut asked, edit) {
+            Ok(count) => {
+                self.board = asked;
+                Ok(count)
+            }
+            // nothing but a loop refuses what was admitted
+            Err(fault) => {
+                self.looped = Some(asked);
+                Err(fault)
+            }
+        }
     }
 
-    // Refused by the smallest number below 25 that applies to an edit.
-    fn admits_edit(&self, edit: Edit) -> Result<(), Refusal> {
-        ensure(self.signals > 0, Refusal::NoEditor)?;
-        ensure(self.levels() > 0, Refusal::NoBatch)?;
+    // Refused for all but a loop, which shows only once the edit is made.
+    fn admits(&self, edit: Edit) -> Result<(), Refusal> {
         ensure(names_inside(edit, self.signals), Refusal::NoSuchSignal)?;
         ensure(is_in_range(edit), Refusal::OutOfRange)?;
         self.admits_for(edit)
@@ -142,7 +146,7 @@ impl Model {
     fn admits_for(&self, edit: Edit) -> Result<(), Refusal> {
         match edit {
             Edit::Input { signal } | Edit::Gate { signal, .. } | Edit::Latch { signal, .. } => {
-                ensure(self.board.driver(signal) == Driver::Absent, Refusal::Driven)
+                ensure(self.board.is_absent(signal), Refusal::Driven)
             }
             Edit::Output { .. } => Ok(()),
             Edit::Delete { signal } => self.admits_delete(signal),
@@ -151,18 +155,14 @@ impl Model {
     }
 
     fn admits_delete(&self, signal: u32) -> Result<(), Refusal> {
-        ensure(
-            self.board.driver(signal) != Driver::Absent,
-            Refusal::NotDriven,
-        )?;
+        ensure(!self.board.is_absent(signal), Refusal::NotDriven)?;
         ensure(!in_use(&self.board.signals, signal), Refusal::InUse)
     }
 
     fn admits_move(&self, signal: u32, pin: u32) -> Result<(), Refusal> {
         let driver = self.board.driver(signal);
-        let has_pins = matches!(driver, Driver::Gate(_) | Driver::Latch(_));
-        ensure(has_pins, Refusal::NotDriven)?;
-        ensure(pin < driver.pin_count(), Refusal::NoSuchPin)
+        let pins = driver.and_then(Driver::pins).ok_or(Refusal::NotDriven)?;
+        ensure((pin as usize) < pins.len(), Refusal::NoSuchPin)
     }
 }
 
@@ -204,8 +204,8 @@ pub fn table_limit(pins: u32) -> u32 {
     }
 }
 
-// Makes an edit that nothing but a loop can refuse. Gives the count, or nothing where there is a loop.
-fn change(heap: Global, board: &mut Board, edit: Edit) -> Result<Option<u32>, AllocError> {
+// Makes an edit that nothing but a loop can refuse. Gives the count.
+fn change(heap: Global, board: &mut Board, edit: Edit) -> Result<u32, Fault<Refusal>> {
     match edit {
         Edit::Input { signal } => board.set_driver(signal, Driver::Input),
         Edit::Output { signal, mark } => board.set_output(signal, mark == 1),
@@ -218,10 +218,10 @@ fn change(heap: Global, board: &mut Board, edit: Edit) -> Result<Option<u32>, Al
             pins,
             nets,
             table,
-        } => return add_gate(heap, board, signal, Gate { pins, nets, table }),
+        } => return add_gate(heap, board, signal, Gate::new(pins, nets, table)),
         Edit::Move { signal, pin, net } => return move_pin(heap, board, signal, pin, net),
     }
-    Ok(Some(0))
+    Ok(0)
 }
 
 fn add_gate(
@@ -229,38 +229,27 @@ fn add_gate(
     board: &mut Board,
     signal: u32,
     gate: Gate,
-) -> Result<Option<u32>, AllocError> {
+) -> Result<u32, Fault<Refusal>> {
+    let nets = gate.nets.clone()?;
     board.set_driver(signal, Driver::Gate(gate));
     let mut sum: u32 = 0;
-    for net in gate.on() {
-        let Some(count) = put(heap, board, signal, *net)? else {
-            return Ok(None);
-        };
-        sum = sum.saturating_add(count);
+    for net in &nets {
+        sum = sum.saturating_add(put(heap, board, signal, *net)?);
     }
-    Ok(Some(sum))
+    Ok(sum)
 }
 
+// The pin of a latch moves nothing.
 fn move_pin(
     heap: Global,
     board: &mut Board,
     signal: u32,
     pin: u32,
     net: u32,
-) -> Result<Option<u32>, AllocError> {
+) -> Result<u32, Fault<Refusal>> {
+    board.set_pin(signal, pin, net);
     match board.driver(signal) {
-        Driver::Gate(gate) => {
-            let mut nets = gate.nets;
-            if let Some(on) = nets.get_mut(pin as usize) {
-                *on = net;
-            }
-            board.set_driver(signal, Driver::Gate(Gate { nets, ..gate }));
-            put(heap, board, signal, net)
-        }
-        Driver::Latch(latch) => {
-            board.set_driver(signal, Driver::Latch(Latch { net, ..latch }));
-            Ok(Some(0))
-        }
-        Driver::Absent | Driver::Input => Ok(Some(0)),
+        Some(Driver::Gate(_)) => put(heap, board, signal, net),
+        _ => Ok(0),
     }
 }

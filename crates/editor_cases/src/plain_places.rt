@@ -1,25 +1,20 @@
 // The rule of places on plain lists: what is reached is found by going over all gates again and again until nothing is added.
-use crate::plain_board::{Board, Signal};
+use crate::fault::{Fault, ensure};
+use crate::plain_board::{Board, SIGNALS_MOST, Signal};
+use netlist::Refusal;
 use std::alloc::{AllocError, Global};
 
-// Puts a pin of a gate on a signal; the netlist has the pin already. Gives the count, or nothing where this makes a loop.
-pub fn put(
-    heap: Global,
-    board: &mut Board,
-    gate: u32,
-    net: u32,
-) -> Result<Option<u32>, AllocError> {
+// Puts a pin of a gate on a signal; the netlist has the pin already. Gives the count, and refuses a loop.
+pub fn put(heap: Global, board: &mut Board, gate: u32, net: u32) -> Result<u32, Fault<Refusal>> {
     let low = place_of(&board.order, gate);
     let high = place_of(&board.order, net);
     if high < low {
-        return Ok(Some(0));
+        return Ok(0);
     }
     let moving = moving(heap, board, gate, high)?;
-    if is_marked(&moving, net) {
-        return Ok(None);
-    }
+    ensure(!moving.contains(&net), Refusal::Looped)?;
     board.order = refilled(heap, &board.order, low, high, &moving)?;
-    Ok(Some(count_marked(&moving)))
+    Ok(u32::try_from(moving.len()).unwrap_or(u32::MAX))
 }
 
 fn place_of(order: &[u32], signal: u32) -> usize {
@@ -29,76 +24,54 @@ fn place_of(order: &[u32], signal: u32) -> usize {
         .unwrap_or(order.len())
 }
 
-fn is_marked(marks: &[bool], signal: u32) -> bool {
-    marks.get(signal as usize).copied().unwrap_or(false)
-}
-
-fn mark(marks: &mut [bool], signal: u32) {
-    if let Some(place) = marks.get_mut(signal as usize) {
-        *place = true;
-    }
-}
-
-fn count_marked(marks: &[bool]) -> u32 {
-    marks.iter().fold(0, |count: u32, mark| count.saturating_add(u32::from(*mark)))
-}
-
 // The start and all that is reached from it, as far as its place is at most `high`.
-fn moving(heap: Global, board: &Board, start: u32, high: usize) -> Result<Vec<bool>, AllocError> {
+fn moving(heap: Global, board: &Board, start: u32, high: usize) -> Result<Vec<u32>, AllocError> {
     let reached = reached(heap, &board.signals, start)?;
-    let mut marks = vec![in heap; false; board.signals.len()]?;
-    let below = board.order.iter().take(high.saturating_add(1));
-    for signal in below.filter(|signal| is_marked(&reached, **signal)) {
-        mark(&mut marks, *signal);
-    }
-    Ok(marks)
+    board
+        .order
+        .iter()
+        .take(high.saturating_add(1))
+        .filter(|signal| reached.contains(signal))
+        .copied()
+        .collect(heap)
 }
 
-fn reached(heap: Global, signals: &[Signal], start: u32) -> Result<Vec<bool>, AllocError> {
-    let mut marks = vec![in heap; false; signals.len()]?;
-    mark(&mut marks, start);
-    for _ in 0..signals.len() {
-        if !spread(signals, &mut marks) {
+// Each round adds a signal, so that there are no more rounds than signals.
+fn reached(heap: Global, signals: &[Signal], start: u32) -> Result<Vec<u32>, AllocError> {
+    let mut reached = vec![in heap; start]?;
+    for _ in signals {
+        let Some(signal) = next_reached(signals, &reached) else {
             break;
-        }
+        };
+        reached.push(signal)?;
     }
-    Ok(marks)
+    Ok(reached)
 }
 
-// Marks what a marked signal feeds. Says whether it marked anything new.
-fn spread(signals: &[Signal], marks: &mut [bool]) -> bool {
-    let mut grew = false;
-    for (signal, fed) in (0..1024).zip(signals) {
-        if !is_marked(marks, signal) && is_fed(*fed, marks) {
-            mark(marks, signal);
-            grew = true;
-        }
-    }
-    grew
+// A signal that is not among those reached, and is fed by one of them.
+fn next_reached(signals: &[Signal], reached: &[u32]) -> Option<u32> {
+    let is_fed = |fed: &Signal| reached.iter().any(|signal| fed.driver.is_fed_by(*signal));
+    (0..SIGNALS_MOST)
+        .zip(signals)
+        .find(|(signal, fed)| !reached.contains(signal) && is_fed(fed))
+        .map(|(signal, _)| signal)
 }
 
-// Whether a marked signal feeds a signal.
-fn is_fed(fed: Signal, marks: &[bool]) -> bool {
-    (0..1024)
-        .zip(marks)
-        .any(|(other, mark)| *mark && fed.driver.is_fed_by(other))
-}
-
-// The places from low to high are filled anew: first by the signals that are not marked, then by those that are, both as they stand.
+// The places from low to high are filled anew: first by the signals that do not move, then by those that do, both as they stand.
 fn refilled(
     heap: Global,
     order: &[u32],
     low: usize,
     high: usize,
-    marks: &[bool],
+    moving: &[u32],
 ) -> Result<Vec<u32>, AllocError> {
     let behind = high.saturating_add(1);
     let between = || order.iter().take(behind).skip(low);
     order
         .iter()
         .take(low)
-        .chain(between().filter(|signal| !is_marked(marks, **signal)))
-        .chain(between().filter(|signal| is_marked(marks, **signal)))
+        .chain(between().filter(|signal| !moving.contains(signal)))
+        .chain(between().filter(|signal| moving.contains(signal)))
         .chain(order.iter().skip(behind))
         .copied()
         .collect(heap)

@@ -1,4 +1,6 @@
 // Where the calls of a trial come from: a table, or a seed.
+ghost use Rattle.std.specs.Prelude.{ℕ, ◌<◌, IsSome, length};
+
 use crate::call::{Expected, Step};
 use crate::model::{Model, table_limit};
 use crate::plain_board::Driver;
@@ -7,8 +9,12 @@ use editor::Call;
 use netlist::Edit;
 
 pub trait Plan {
+    // How many calls are left.
+    ghost left: { Self → ℕ };
+
     // The next call, which may be chosen by what the model has, or nothing at the end.
-    fn next_step(&mut self, model: &Model) -> Option<Step>;
+    fn next_step(&mut self, model: &Model) -> Option<Step>
+        ensures { IsSome result → left self.new < left self.old };
 }
 
 // A call and the reply that it has to give.
@@ -20,6 +26,8 @@ pub struct Row(pub Call, pub Expected);
 pub struct Table<'a>(pub &'a [Row]);
 
 impl Plan for Table<'_> {
+    ghost left = { λ table. length table.0.now };
+
     fn next_step(&mut self, _model: &Model) -> Option<Step> {
         let (Row(call, reply), rest) = self.0.split_first()?;
         self.0 = rest;
@@ -79,15 +87,22 @@ impl Random {
             return self.any_edit(model.signals);
         }
         let signal = self.below(model.signals);
-        let driver = model.board.driver(signal);
-        match driver {
-            Driver::Absent => self.driving(signal, model.signals),
-            Driver::Input => self.undriving(signal),
-            _ => if self.below(4) == 0 {
-                self.undriving(signal)
-            } else {
-                self.moving(signal, driver.pin_count(), model.signals)
-            },
+        match model.board.driver(signal) {
+            None | Some(Driver::Absent) => self.driving(signal, model.signals),
+            Some(Driver::Input) => self.undriving(signal),
+            Some(Driver::Latch(_)) => self.changing(signal, 1, model.signals),
+            Some(Driver::Gate(gate)) => {
+                self.changing(signal, gate.nets.len() as u32, model.signals)
+            }
+        }
+    }
+
+    // Mostly moves a pin of a signal.
+    fn changing(&mut self, signal: u32, pins: u32, signals: u32) -> Edit {
+        if self.below(4) == 0 {
+            self.undriving(signal)
+        } else {
+            self.moving(signal, pins, signals)
         }
     }
 
@@ -176,10 +191,14 @@ impl Random {
 }
 
 impl Plan for Random {
+    ghost left = { λ random. random.left };
+
     fn next_step(&mut self, model: &Model) -> Option<Step> {
-        self.left = self.left.checked_sub(1)?;
+        let left = self.left.checked_sub(1)?;
+        let call = self.call(model);
+        self.left = left;
         Some(Step {
-            call: self.call(model),
+            call,
             expected: None,
         })
     }

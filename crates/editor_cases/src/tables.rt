@@ -1,4 +1,4 @@
-// Calls with the replies that the rules give, an edit as in the call of its name.
+// Calls with the replies that the rules give, refusals by the numbers that stand there, an edit as in the call of its name.
 use crate::plan::Row;
 use editor::Call;
 use netlist::Edit;

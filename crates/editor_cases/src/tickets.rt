@@ -1,7 +1,9 @@
 // A ticket of another editor is a ticket: an editor without a batch hands it back, and one with a batch takes it.
-use crate::outcome::Outcome;
+use crate::difference::Difference;
+use crate::fault::ensure;
+use crate::report::Report;
 use desk::Desk;
-use memory::Memory;
+use memory::{Memory, Pair};
 use netlist::Refusal;
 use words::Store;
 
@@ -11,13 +13,14 @@ const SIZE: usize = 96;
 
 const LIMIT: usize = 3;
 
-// Keep, then drop, at an editor that should hand back the ticket of another with a refusal.
+// Keep, then drop, at an editor that has to hand back the ticket of another with a refusal.
 fn hand_in<A: Store, B: Store>(
     first: &mut Desk<A>,
     second: &mut Desk<B>,
     refusal: Refusal,
-) -> bool {
-    first.keep_at(second) == Some(refusal) && first.drop_at(second) == Some(refusal)
+) -> Result<(), Difference> {
+    ensure(first.keep_at(second) == Some(refusal), Difference::Ticket)?;
+    ensure(first.drop_at(second) == Some(refusal), Difference::Ticket)
 }
 
 // The ticket of the first editor goes to the one without signals, to the second without a batch, and is taken by the second with one,
@@ -26,46 +29,49 @@ fn exchange<A: Store, B: Store, C: Store>(
     first: &mut Desk<A>,
     second: &mut Desk<B>,
     none: &mut Desk<C>,
-) -> bool {
-    first.begin().is_ok()
-        && hand_in(first, none, Refusal::NoEditor)
-        && hand_in(first, second, Refusal::NoBatch)
-        && swap_tickets(first, second)
+) -> Result<(), Difference> {
+    first.begin()?;
+    hand_in(first, none, Refusal::NoEditor)?;
+    hand_in(first, second, Refusal::NoBatch)?;
+    swap_tickets(first, second)
 }
 
 // The second drops with the ticket of the first, and the first keeps with that of the second.
-fn swap_tickets<A: Store, B: Store>(first: &mut Desk<A>, second: &mut Desk<B>) -> bool {
-    second.begin().is_ok()
-        && first.swap(second)
-        && second.drop_batch().is_ok()
-        && first.keep().is_ok()
-        && first.editor().levels() == 0
-        && second.editor().levels() == 0
+fn swap_tickets<A: Store, B: Store>(
+    first: &mut Desk<A>,
+    second: &mut Desk<B>,
+) -> Result<(), Difference> {
+    second.begin()?;
+    ensure(first.swap(second), Difference::Ticket)?;
+    second.drop_batch()?;
+    first.keep()?;
+    let levels = first.editor().levels().max(second.editor().levels());
+    ensure(levels == 0, Difference::Levels)
 }
 
 // Over three stores of one kind; the third makes an editor of no signals.
-fn try_on<S: Store + Drop>(first: S, second: S, none: S) -> bool {
+fn try_on<S: Store + Drop>(first: S, second: S, none: S) -> Result<(), Difference> {
     let mut first = Desk::new(first, SIGNALS);
     let mut second = Desk::new(second, SIGNALS);
     let mut none = Desk::new(none, 0);
-    let good = exchange(&mut first, &mut second, &mut none);
+    let verdict = exchange(&mut first, &mut second, &mut none);
     let _ = first.close();
     let _ = second.close();
     let _ = none.close();
-    good
+    verdict
 }
 
-pub fn try_tickets(rt: &HostRuntime) -> anyhow::Result<bool> {
-    let heap = rt.alloc();
+pub fn try_tickets(report: &mut Report) -> anyhow::Result<()> {
+    let heap = report.rt.alloc();
     let mut first = Memory::new(heap, SIZE, LIMIT, 7)?;
     let mut second = Memory::new(heap, SIZE, LIMIT, 7)?;
     let mut none = Memory::new(heap, SIZE, LIMIT, 7)?;
-    let outcome = Outcome {
+    let verdicts = Pair {
         log: try_on(first.log(), second.log(), none.log()),
         snapshot: try_on(first.snapshot(), second.snapshot(), none.snapshot()),
     };
-    outcome.report(
-        rt,
-        "tickets of another editor: handed back with 10 and 1, taken by an open batch",
+    report.case(
+        "tickets of another editor: handed back with 10 and 1, taken by an open batch:",
+        verdicts,
     )
 }

@@ -1,40 +1,36 @@
 // An editor and the model, played side by side until they differ.
 use crate::call::{Reply, Shape, Step};
-use crate::compare::{Difference, compare, ensure};
+use crate::difference::{Difference, Finding};
+use crate::fault::{Fault, ensure, settle};
 use crate::model::Model;
-use crate::outcome::Outcome;
 use crate::plan::Plan;
-use crate::play::{Played, Way, play};
+use crate::play::{Way, play};
 use desk::Desk;
-use editor::{Call, Editor};
-use memory::Memory;
+use editor::Call;
+use memory::{Memory, Pair};
 use std::alloc::{AllocError, Global};
 use std::collections::BTreeMap;
+use std::fmt::{self, Display, Formatter, Write};
 use words::Store;
 
-// More calls than any plan has.
-const CALLS_MOST: u32 = 100_000;
-
-// How many calls were accepted and the sum of their counts, how many were refused with each number, and whether the editor did as the model.
+// How many calls were accepted and the sum of their counts, and how many were refused with each number.
 #[derive(Drop)]
-pub struct Trial {
-    pub accepted: u32,
-    pub moved: u32,
-    pub refused: BTreeMap<u32, u32>,
-    pub good: bool,
+pub struct Tally {
+    accepted: u32,
+    moved: u32,
+    refused: BTreeMap<u32, u32>,
 }
 
-impl Trial {
-    fn new(heap: Global) -> Trial {
-        Trial {
+impl Tally {
+    fn new(heap: Global) -> Tally {
+        Tally {
             accepted: 0,
             moved: 0,
             refused: BTreeMap::new(heap),
-            good: true,
         }
     }
 
-    fn count(&mut self, reply: Reply) -> anyhow::Result<()> {
+    fn count(&mut self, reply: Reply) -> Result<(), AllocError> {
         match reply {
             Ok(count) => {
                 self.accepted = self.accepted.saturating_add(1);
@@ -55,125 +51,98 @@ impl Trial {
     }
 }
 
-// A plan tried over each store.
-#[derive(Drop)]
-pub struct Trials {
-    pub log: Trial,
-    pub snapshot: Trial,
-}
-
-impl Trials {
-    pub fn outcome(&self) -> Outcome {
-        Outcome {
-            log: self.log.good,
-            snapshot: self.snapshot.good,
+// Of the refusals each number that was given, and how many times.
+impl Display for Tally {
+    fn fmt<W: Write>(&self, f: &mut Formatter<W>) -> fmt::Result {
+        let accepted = self.accepted;
+        let moved = self.moved;
+        write!(f, "{accepted} accepted, {moved} moved; refused")?;
+        for (number, count) in &self.refused {
+            write!(f, " {number} x {count}")?;
         }
+        Ok(())
     }
 }
 
+// The first difference, if there is one.
+pub type Verdict = Result<(), Finding>;
+
+// A plan tried over a store: the replies that were owed, and how it went.
+#[derive(Drop)]
+pub struct Trial {
+    pub tally: Tally,
+    pub verdict: Verdict,
+}
+
 pub fn try_on_both<P: Plan + Copy>(
-    rt: &HostRuntime,
+    heap: Global,
     shape: Shape,
     plan: P,
     way: Way,
-) -> anyhow::Result<Trials> {
+) -> Result<Pair<Trial>, AllocError> {
     let size = 24 * shape.signals.min(2048) as usize + 24;
-    let mut memory = Memory::new(rt.alloc(), size, shape.limit, 7)?;
-    Ok(Trials {
-        log: try_editor(rt, memory.log(), shape, plan, way)?,
-        snapshot: try_editor(rt, memory.snapshot(), shape, plan, way)?,
+    let mut memory = Memory::new(heap, size, shape.limit, 7)?;
+    Ok(Pair {
+        log: try_editor(heap, memory.log(), shape, plan, way)?,
+        snapshot: try_editor(heap, memory.snapshot(), shape, plan, way)?,
     })
 }
 
 // Makes an editor over a store, and plays a plan on it and on the model. A batch that is still open then is dropped.
 fn try_editor<S: Store + Drop, P: Plan + Drop>(
-    rt: &HostRuntime,
+    heap: Global,
     store: S,
     shape: Shape,
     plan: P,
     way: Way,
-) -> anyhow::Result<Trial> {
+) -> Result<Trial, AllocError> {
     let mut desk = Desk::new(store, shape.signals);
-    let trial = play_plan(rt, &mut desk, shape, plan, way);
+    let mut tally = Tally::new(heap);
+    let outcome = play_out(heap, shape, plan, |model, call, owed| {
+        tally.count(owed)?;
+        play(&mut desk, call, way, model, owed).map_err(Fault::Told)
+    });
     let _ = desk.close();
-    trial
+    Ok(Trial {
+        tally,
+        verdict: settle(outcome)?,
+    })
 }
 
-// The first difference is printed, and ends the trial.
-fn play_plan<S: Store, P: Plan + Drop>(
-    rt: &HostRuntime,
-    desk: &mut Desk<S>,
+// Plays a plan on the model alone, which has to give the replies that are written down.
+pub fn try_model<P: Plan + Drop>(
+    heap: Global,
     shape: Shape,
     plan: P,
-    way: Way,
-) -> anyhow::Result<Trial> {
-    let mut plan = plan;
-    let mut model = Model::new(rt.alloc(), shape)?;
-    let mut trial = Trial::new(rt.alloc());
-    for _ in 0..CALLS_MOST {
-        let Some(step) = plan.next_step(&model) else {
-            break;
-        };
-        let played = play(desk, step.call, way);
-        trial.good = judge(rt, desk.editor(), &mut model, step, played)?;
-        trial.count(played.reply)?;
-        if !trial.good {
-            break;
-        }
-    }
-    Ok(trial)
+) -> Result<Verdict, AllocError> {
+    settle(play_out(heap, shape, plan, |_, _, _| Ok(())))
 }
 
-// Plays a call on the model too, and says whether the editor did the same. A difference is printed.
-fn judge<S: Store>(
-    rt: &HostRuntime,
-    editor: &Editor<S>,
-    model: &mut Model,
-    step: Step,
-    played: Played,
-) -> anyhow::Result<bool> {
-    let owed = model.play(rt.alloc(), step.call)?;
-    if !step.meets(owed) {
-        return tell(rt, step.call, owed, Difference::Model);
-    }
-    match differs(editor, model, owed, played) {
-        Ok(()) => Ok(true),
-        Err(difference) => tell(rt, step.call, played.reply, difference),
-    }
-}
-
-fn differs<S: Store>(
-    editor: &Editor<S>,
-    model: &Model,
-    owed: Reply,
-    played: Played,
-) -> Result<(), Difference> {
-    ensure(played.reply == owed, Difference::Reply)?;
-    ensure(played.clean, Difference::Flags)?;
-    compare(editor, model)
-}
-
-fn tell(
-    rt: &HostRuntime,
-    call: Call,
-    reply: Reply,
-    difference: Difference,
-) -> anyhow::Result<bool> {
-    println!(rt; "difference: {difference}, at {call:?}, {reply:?}")?;
-    Ok(false)
-}
-
-// Plays a plan on the model alone, and says whether it gives the replies that are written down.
-pub fn try_model<P: Plan + Drop>(heap: Global, shape: Shape, plan: P) -> Result<bool, AllocError> {
+// Plays a plan on the model, and hands on each call and what is owed for it, until there is a difference.
+fn play_out<P: Plan + Drop, F: FnMut(&Model, Call, Reply) -> Result<(), Fault<Finding>>>(
+    heap: Global,
+    shape: Shape,
+    plan: P,
+    mut follow: F,
+) -> Result<(), Fault<Finding>>
+    requires { F.IsAlwaysCallable follow }
+{
     let mut plan = plan;
     let mut model = Model::new(heap, shape)?;
-    for _ in 0..CALLS_MOST {
-        let Some(step) = plan.next_step(&model) else {
-            break;
-        };
-        if !step.meets(model.play(heap, step.call)?) {
-            return Ok(false);
-        }
+    while let Some(step) = plan.next_step(&model) {
+        let owed = model.play(heap, step.call)?;
+        check(step, owed).map_err(Fault::Told)?;
+        follow(&model, step.call, owed)?;
     }
-    Ok(true)
+    Ok(())
+}
+
+// The model has to reply what is written down.
+fn check(step: Step, owed: Reply) -> Verdict {
+    let finding = Finding {
+        difference: Difference::Model,
+        call: step.call,
+        reply: owed,
+    };
+    ensure(step.meets(owed), finding)
 }

@@ -63,7 +63,7 @@ impl Memory {
         InverseLog::new(&mut self.words, size, limit)
     }
 
-    // A snapshot over the memory.
+    // A snapshot over the memory. It and `log` differ in whose `new` is called; the trait that both come from is private to the stores.
     pub fn snapshot(&mut self) -> Snapshot<'_>
         ensures* lends { sem 𝓛 (LendsWords self.entry result.words) }
         ensures gives { Gives self.old (⟦<Snapshot<'static> as Store>⟧.model result) result.words.now }

@@ -4,6 +4,7 @@ ghost use Rattle.std.specs.Prelude.{◌≡◌, suc, ◌<◌, ◌≤◌};
 // Signals and places are below it.
 const LIMIT: u32 = 1024;
 
+// That it lies on a board is said of that board (`Range`), and so in the clauses of what walks it.
 #[derive(Clone, Copy)]
 pub(crate) struct Span {
     pub low: u32,

@@ -7,7 +7,7 @@ use Rattle.desk.proofs.desk.Desk.drop_batch.Goals as goal
 
 pub invariant_of-self-in-Some : goal.invariant_of-self-in-Some
 invariant_of-self-in-Some g c =
-    holds_by _ _ _ _ Drop _ _ _ c.drop_batch.ensures.called.stays.signals c.drop_batch.ensures.called.idle c.drop_batch.ensures.called.steps
+    holds_by _ _ Drop _ _ _ c.drop_batch.ensures.batched.called
     (closed_at_hand Drop _ _ c.in-Some.ticket _ (λ some none. (some, none)) c.in-Some.ensures.value c.closed.ensures.hand c.drop_batch.ensures.back)
     c.self.invariant
 
@@ -18,6 +18,6 @@ returns-in-None-clause-plays g c =
 pub returns-in-Some-clause-plays : goal.returns-in-Some-clause-plays
 returns-in-Some-clause-plays g c =
     subst (Plays _ Drop _) (sym c.closed.ensures.reply)
-    (plays _ _ _ Drop _ c.self.view_is c.drop_batch.ensures.called.idle c.drop_batch.ensures.called.steps c.drop_batch.ensures.called.stays.signals c.drop_batch.ensures.called.stays.behind c.drop_batch.ensures.shown
+    (plays _ c.self.inside.editor c.drop_batch.new.self _ _ Drop _ c.self.view_is tt c.drop_batch.ensures.batched
     (closed_at_hand Drop _ _ c.in-Some.ticket _ (λ some none. (some, none)) c.in-Some.ensures.value c.closed.ensures.hand c.drop_batch.ensures.back)
     c.self.invariant)

@@ -5,8 +5,7 @@ use Rattle.desk.proofs.Playing.{plays, stays_at_hand}
 use Rattle.desk.proofs.desk.Desk.drop_mark.Goals as goal
 
 pub invariant_of-self : goal.invariant_of-self
-invariant_of-self g c = holds_by _ _ _ _ DropMark _ _ _ c.drop_mark.ensures.called.stays.signals c.drop_mark.ensures.called.idle c.drop_mark.ensures.called.steps (stays_at_hand DropMark _ _ refl) c.self.invariant
+invariant_of-self g c = holds_by _ _ DropMark _ _ _ c.drop_mark.ensures.called (stays_at_hand DropMark _ _ refl) c.self.invariant
 
 pub returns : goal.returns
-returns g c =
-    plays _ _ _ DropMark _ c.self.view_is c.drop_mark.ensures.called.idle c.drop_mark.ensures.called.steps c.drop_mark.ensures.called.stays.signals c.drop_mark.ensures.called.stays.behind c.drop_mark.ensures.shown (stays_at_hand DropMark _ _ refl) c.self.invariant
+returns g c = plays _ c.self.inside.editor c.drop_mark.new.self _ _ DropMark _ c.self.view_is tt c.drop_mark.ensures (stays_at_hand DropMark _ _ refl) c.self.invariant

@@ -7,7 +7,7 @@ use Rattle.desk.proofs.desk.Desk.keep.Goals as goal
 
 pub invariant_of-self-in-Some : goal.invariant_of-self-in-Some
 invariant_of-self-in-Some g c =
-    holds_by _ _ _ _ Keep _ _ _ c.keep.ensures.called.stays.signals c.keep.ensures.called.idle c.keep.ensures.called.steps
+    holds_by _ _ Keep _ _ _ c.keep.ensures.batched.called
     (closed_at_hand Keep _ _ c.in-Some.ticket _ (λ some none. (some, none)) c.in-Some.ensures.value c.closed.ensures.hand c.keep.ensures.back)
     c.self.invariant
 
@@ -18,6 +18,6 @@ returns-in-None-clause-plays g c =
 pub returns-in-Some-clause-plays : goal.returns-in-Some-clause-plays
 returns-in-Some-clause-plays g c =
     subst (Plays _ Keep _) (sym c.closed.ensures.reply)
-    (plays _ _ _ Keep _ c.self.view_is c.keep.ensures.called.idle c.keep.ensures.called.steps c.keep.ensures.called.stays.signals c.keep.ensures.called.stays.behind c.keep.ensures.shown
+    (plays _ c.self.inside.editor c.keep.new.self _ _ Keep _ c.self.view_is tt c.keep.ensures.batched
     (closed_at_hand Keep _ _ c.in-Some.ticket _ (λ some none. (some, none)) c.in-Some.ensures.value c.closed.ensures.hand c.keep.ensures.back)
     c.self.invariant)

@@ -5,8 +5,7 @@ use Rattle.desk.proofs.Playing.{plays, stays_at_hand}
 use Rattle.desk.proofs.desk.Desk.mark.Goals as goal
 
 pub invariant_of-self : goal.invariant_of-self
-invariant_of-self g c = holds_by _ _ _ _ Mark _ _ _ c.mark.ensures.called.stays.signals c.mark.ensures.called.idle c.mark.ensures.called.steps (stays_at_hand Mark _ _ refl) c.self.invariant
+invariant_of-self g c = holds_by _ _ Mark _ _ _ c.mark.ensures.called (stays_at_hand Mark _ _ refl) c.self.invariant
 
 pub returns : goal.returns
-returns g c =
-    plays _ _ _ Mark _ c.self.view_is c.mark.ensures.called.idle c.mark.ensures.called.steps c.mark.ensures.called.stays.signals c.mark.ensures.called.stays.behind c.mark.ensures.shown (stays_at_hand Mark _ _ refl) c.self.invariant
+returns g c = plays _ c.self.inside.editor c.mark.new.self _ _ Mark _ c.self.view_is tt c.mark.ensures (stays_at_hand Mark _ _ refl) c.self.invariant

@@ -4,5 +4,4 @@ use Rattle.editor.proofs.editor.Editor.delete.Goals as goal
 
 pub returns : goal.returns
 returns g c =
-    edited_early c.args.self.now.board c.delete_signal.new.board (Delete c.args.signal) c.delete_signal.result c.clear.new.self c.in_ok-serves.ensures
-    c.delete_signal.ensures.makes c.delete_signal.ensures.early c.clear.ensures c.delete_signal.ensures.stays
+    edited_early c.args.self.now _ (Delete c.args.signal) c.delete_signal.result c.in_ok-serves.ensures c.delete_signal.ensures c.clear.ensures

@@ -4,5 +4,4 @@ use Rattle.editor.proofs.editor.Editor.input.Goals as goal
 
 pub returns : goal.returns
 returns g c =
-    edited_early c.args.self.now.board c.add_input.new.board (Input c.args.signal) c.add_input.result c.clear.new.self c.in_ok-serves.ensures
-    c.add_input.ensures.makes c.add_input.ensures.early c.clear.ensures c.add_input.ensures.stays
+    edited_early c.args.self.now _ (Input c.args.signal) c.add_input.result c.in_ok-serves.ensures c.add_input.ensures c.clear.ensures
