@@ -32,7 +32,8 @@ fn fill_others<S: Store>(board: &mut StoredBoard<S>, span: Span, search: &Search
     let mut held = ArrayVec::new();
     for place in span.low..span.end() {
         let signal = board.read(Field::Holder, place);
-        if search.contains(signal) {
+        let moves = search.contains(signal);
+        if moves {
             held.push(signal);
         } else {
             board.write(Field::Holder, next, signal);

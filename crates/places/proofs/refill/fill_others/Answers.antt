@@ -5,7 +5,7 @@ use Rattle.places.specs.Refill.{Range, Walked, flagged}
 use Rattle.places.proofs.Counting.{told-flagged}
 use Rattle.places.proofs.Filling.{walked_none, walked_holds, walked_writes}
 use Rattle.places.proofs.refill.fill_others.Goals as goal
-use Rattle.places.proofs.refill.fill_others.Goals.{then-contains, else-contains}
+use Rattle.places.proofs.refill.fill_others.Goals.{then-moves, else-moves}
 
 pub loop-place-init : goal.loop-place-init
 loop-place-init g c =
@@ -33,29 +33,29 @@ loop-place-preserved g c =
     let same = c.loop-place.invariant.4.stays.signals in
     let read : c.read-signal.result ≡ word l.words.image (4 * m + c.loop-place.place) =
     c.read-signal.ensures ∙ ap (λ k. word l.words.image (4 * k + c.loop-place.place)) same in
-    let told = told-flagged c.args.search.now.flags.now c.read-signal.result c.contains.result c.contains.ensures.flag in
+    let told = told-flagged c.args.search.now.flags.now c.read-signal.result c.contains-moves.result c.contains-moves.ensures.flag in
     let inside : Range m ws low high → c.loop-place.place ≤ high =
     λ range. omega (arith, range.within, range.few, c.loop-place-test.true, c.end-place-end.ensures.next (omega (arith, range.within, range.few))) in
-    elim c.if-contains.branch [
-      | then-contains w ↦
+    elim c.if-moves.branch [
+      | then-moves w ↦
           rw (w.board-is, w.held-is, w.next-is) (
             λ range.
                 walked_holds f m ws low high range c.loop-place.place c.loop-place.next l.words.image c.loop-place.held.items
                 c.loop-place.auto.place (inside range) (c.loop-place.invariant.0 range) c.read-signal.result w.push.new.self.items read
-                (told ∙ w.if-contains.true) w.push.ensures.items,
+                (told ∙ w.if-moves.true) w.push.ensures.items,
             omega (arith, c.loop-place.invariant.1, w.push.ensures.len),
             omega (arith, c.loop-place-test.true, c.end-place-end.ensures.few),
             omega (arith, c.loop-place.invariant.1, w.push.ensures.len, c.loop-place-test.true, c.end-place-end.ensures.few),
             c.loop-place.invariant.4,
           )
-      | else-contains w ↦
+      | else-moves w ↦
           rw (w.board-is, w.held-is, w.next-is) (
             λ range.
                 subst (λ words. Walked f m ws low (c.loop-place.place + 1 - low) words (c.loop-place.next + 1) c.loop-place.held.items)
                 (sym (ap (λ x. x.words.image) w.write.ensures))
                 (walked_writes f m ws low high range c.loop-place.place c.loop-place.next l.words.image c.loop-place.held.items
                 c.loop-place.auto.place (inside range) (c.loop-place.invariant.0 range) c.read-signal.result (4 * l.signals + c.loop-place.next) read
-                (told ∙ w.if-contains.false) (ap (λ k. 4 * k + c.loop-place.next) same)),
+                (told ∙ w.if-moves.false) (ap (λ k. 4 * k + c.loop-place.next) same)),
             omega (arith, c.loop-place.invariant.1),
             omega (arith, c.loop-place-test.true, c.end-place-end.ensures.few),
             c.loop-place.invariant.3,
