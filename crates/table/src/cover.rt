@@ -40,15 +40,13 @@ fn covers(plane: &[u8], minterm: u32) -> bool
 /// The first so many minterms that pass a test, a bit for each.
 fn passing<F: Fn(u32) -> bool>(rows: u32, test: F) -> u32
     requires few { rows ≤ 16 }
-    requires asked { (m : ℕ) → m < rows → F.pre test m }
+    requires called { F.IsAlwaysCallable test }
     ensures fits { result < 2 ^ rows }
     ensures each { (m : ℕ) → m < rows → F.post test m (bit result m == 1) }
 {
-    let mut set = 0;
-    for minterm in (0..rows).rev() {
-        set = 2 * set + u32::from(test(minterm));
-    }
-    set
+    (0..rows).fold(0, |set, minterm| {
+        set | u32::from(test(minterm)).unbounded_shl(minterm)
+    })
 }
 
 impl TryFrom<&[u8]> for Output {
@@ -58,11 +56,8 @@ impl TryFrom<&[u8]> for Output {
 
     fn try_from(output: &[u8]) -> Result<Output, CoverFault> {
         match output {
-            [b] => match *b as char {
-                '0' => Ok(Output::Zero),
-                '1' => Ok(Output::One),
-                _ => Err(CoverFault::Malformed),
-            },
+            b"0" => Ok(Output::Zero),
+            b"1" => Ok(Output::One),
             _ => Err(CoverFault::Malformed),
         }
     }
@@ -147,11 +142,10 @@ impl Cover {
         ensures { Decides result (IsOne self.output (bit self.listed minterm == 1)) }
     {
         let covered = bit_at(self.listed, minterm) == 1;
-        match self.output {
-            None => false,
-            Some(Output::One) => covered,
-            Some(Output::Zero) => !covered,
-        }
+        self.output.is_some_and(|output| match output {
+            Output::One => covered,
+            Output::Zero => !covered,
+        })
     }
 
     /// The table that the lines taken mean.
