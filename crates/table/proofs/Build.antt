@@ -11,6 +11,7 @@ use lib.Bits.{or_lt}
 use Rattle.std.proofs.lemmas.Bool.{eqb-true, eq-eqb, ne_eqb, cond_below, cases_eq}
 use Rattle.std.proofs.lemmas.Nat.Bits.{bit_at_set_same, bit_at_set_other, bit_at_above}
 use Rattle.std.proofs.lemmas.List.{map-id}
+use Rattle.table.specs.declared.shape.Table.{Table}
 use Rattle.table.specs.Bit.{bit}
 use Rattle.table.specs.Line.{Holds}
 
@@ -81,11 +82,11 @@ module _ {F : Type 0} (g : Mut F (ℕ × (ℕ × Unit {0})) ℕ) (f : F) (rows :
       built_from puts rows 0 0 r q (omega arith) (record { fits = omega arith; each = λ m h. absurd (omega arith) })
       (subst (λ ys. FoldsTo {P = F × ℕ} (FoldTurn g) (f, 0) ys (q, r)) (sym (map-id xs) ∙ same) folded)
 
--- The whole set, where the test decides a fact of each minterm.
+-- The whole table, where the test decides a fact of each minterm.
 pub holds_passing :
-    (pins rows set : ℕ) (P : ℕ → Type 0) → rows ≡ 2 ^ pins → set < 2 ^ rows
-    → ((m : ℕ) → m < rows → Decides (eqb (bit set m) 1) (P m)) → Holds pins set P
-holds_passing pins rows set P is fits each = record {
-  fits = rw (sym is) fits;
-  bitwise = λ m l. let d = each m (omega arith) in ((λ one. d.0 (eq-eqb _ 1 one)), (λ p. eqb-true _ 1 (d.1 p)));
+    (table : Table) (P : ℕ → Type 0) → ((m : ℕ) → m < 2 ^ table.pins → Decides (eqb (bit table.bits m) 1) (P m))
+    → Holds table.pins table.bits P
+holds_passing table P each = record {
+  fits = table.fits;
+  bitwise = λ m l. let d = each m l in ((λ one. d.0 (eq-eqb _ 1 one)), (λ p. eqb-true _ 1 (d.1 p)));
 }

@@ -24,7 +24,7 @@ use Rattle.table.proofs.Ones.{line-formed, reads-back, means_one_table}
 
 -- The cover has taken the lines of these minterms.
 pub record Wrote (table : Table) (ones : List ℕ) (cover : Cover) : Type 0 where
-  pub same : cover.pins ≡ table.pins
+  pub same : cover.listed.pins ≡ table.pins
   pub read : Read (map (line_at table.pins) ones) cover
 
 -- The first characters of four are the plane of a gate with fewer pins.
@@ -58,7 +58,7 @@ module _ (table : Table) (ones : List ℕ) (cover : Cover) (wrote : Wrote table 
   lines = map (line_at table.pins) ones
 
   pub wrote-more :
-      (one : ℕ) (line : Line) (after : Cover) → line ≡ line_at table.pins one → after.pins ≡ cover.pins
+      (one : ℕ) (line : Line) (after : Cover) → line ≡ line_at table.pins one → after.listed.pins ≡ cover.listed.pins
       → Read (lines ++ line ∷ []) after → Wrote table (ones ++ one ∷ []) after
   wrote-more one line after is same read = record {
     same = same ∙ wrote.same;
@@ -66,14 +66,14 @@ module _ (table : Table) (ones : List ℕ) (cover : Cover) (wrote : Wrote table 
   }
 
   pub wrote-refused :
-      (one at : ℕ) (line : Line) (fault : CoverFault) → line ≡ line_at table.pins one → at ≡ cover.pins → Refuses at lines line fault → ⊥
+      (one at : ℕ) (line : Line) (fault : CoverFault) → line ≡ line_at table.pins one → at ≡ cover.listed.pins → Refuses at lines line fault → ⊥
   wrote-refused one at line fault is same refused =
       never_refused table.pins one ones fault
       (subst (λ x. Refuses table.pins lines x fault) is (subst (λ n. Refuses n lines line fault) (same ∙ wrote.same) refused))
 
   pub wrote-all :
       (bits : ℕ) → ones ≡ ones_below table.bits (2 ^ table.pins)
-      → ((ls : List Line) → Read ls cover → Gives cover.pins ls bits) → bits ≡ table.bits
+      → ((ls : List Line) → Read ls cover → Gives cover.listed.pins ls bits) → bits ≡ table.bits
   wrote-all bits all gives =
       means_one_table table.pins (lines_of table.pins table.bits) bits table.bits
       (subst (λ ns. Means table.pins (map (line_at table.pins) ns) bits) all (subst (λ n. Means n lines bits) wrote.same (gives lines wrote.read).1))

@@ -11,7 +11,7 @@ returns-in_err-line c =
     let inv = c.loop-minterm.invariant in
     let told = c.in_err-line.ensures in
     let is = cut-plane table.pins c.in-Some.minterm c.plane-plane.result table.few c.plane-plane.ensures in
-    absurd (wrote-refused table ones c.loop-minterm.cover inv c.in-Some.minterm c.line.new.self.pins _ _ is told.same.0 (told.takes (lines table ones c.loop-minterm.cover inv) inv.read))
+    absurd (wrote-refused table ones c.loop-minterm.cover inv c.in-Some.minterm c.line.new.self.listed.pins _ _ is told.same.0 (told.takes (lines table ones c.loop-minterm.cover inv) inv.read))
 
 pub loop-minterm-preserved : goal.loop-minterm-preserved
 loop-minterm-preserved c =
