@@ -56,11 +56,7 @@ impl<'a, T: Text> Words<'a, T> {
         ensures { left_words T.Text.rules result.at.line result.at.place result.rest ≡ words T.Text.rules line.entry.at.line line.entry.at.place line.entry.bytes.now }
     {
         Words {
-            rest: if line.bytes.is_empty() {
-                None
-            } else {
-                Some(line.bytes)
-            },
+            rest: (!line.bytes.is_empty()).then_some(line.bytes),
             at: line.at,
             kind: PhantomData,
         }

@@ -63,7 +63,7 @@ fn check<T: Text>(line: RawLine) -> Result<(), TextFault>
     Ok(())
 }
 
-// Memory can fail only where there is a word.
+// Memory can fail only where there is a word: `collect` does not say so, and so each word is pushed.
 fn split<'a, T: Text>(heap: Global, line: RawLine<'a>) -> Result<Vec<Word<'a>>, AllocError>
     ensures { MatchResult result (λ v. map spelled v.items ≡ words T.Text.rules line.entry.at.line line.entry.at.place line.entry.bytes.now) (λ _. 0 < length (words T.Text.rules line.entry.at.line line.entry.at.place line.entry.bytes.now)) }
 {
