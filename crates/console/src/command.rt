@@ -4,7 +4,7 @@ use editor::Call;
 use netlist::Edit;
 use store_script::decimal;
 
-// M and D of an editor.
+// M and D of an editor, as a line says them.
 #[derive(Clone, Copy)]
 pub struct Shape {
     pub signals: u32,
@@ -28,7 +28,8 @@ const NUMBERS_MOST: usize = 7;
 
 type Numbers = ArrayVec<u32, NUMBERS_MOST>;
 
-// The numbers behind the name, or nothing where a word is no number or there are too many.
+// The numbers behind the name, or nothing where a word is no number or there are too many. Each is pushed: what `collect`
+// gives up for is memory, and a word that is no number is none of that.
 fn read_numbers(line: &[u8]) -> Option<Numbers> {
     let mut numbers = Numbers::new();
     for word in line.split(is_blank).skip(1) {

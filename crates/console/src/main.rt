@@ -8,7 +8,7 @@ mod session;
 mod show;
 
 use anyhow::anyhow;
-use lines::Lines;
+use lines::lines_of;
 use session::{Bottom, first_editor, play_one};
 use std::env;
 use std::io::BufReader;
@@ -37,8 +37,9 @@ fn asked(rt: &HostRuntime) -> anyhow::Result<Bottom> {
 
 fn run(rt: &HostRuntime) -> anyhow::Result<()> {
     let bottom = asked(rt)?;
-    let mut lines = Lines::new(BufReader::new(rt.alloc(), rt.stdin())?);
+    let mut lines = lines_of(rt.alloc(), BufReader::new(rt.alloc(), rt.stdin())?);
     let mut next = first_editor(rt, &mut lines)?;
+    // the input ends this, and none has so many lines
     for _ in 0..u64::MAX {
         let Some(shape) = next else {
             break;

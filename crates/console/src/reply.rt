@@ -1,55 +1,55 @@
 // The line that a call prints.
 use editor::Editor;
 use netlist::Refusal;
-use std::alloc::Global;
+use std::{fmt, io};
 use words::Store;
+
+// Numbers as they are printed, each behind a blank.
+#[derive(Clone, Copy)]
+pub struct Numbers<'a>(pub &'a [u32]);
+
+impl fmt::Display for Numbers<'_> {
+    fn fmt<W: fmt::Write>(&self, f: &mut fmt::Formatter<W>) -> fmt::Result {
+        for number in self.0 {
+            write!(f, " {number}")?;
+        }
+        Ok(())
+    }
+}
 
 pub fn print_reply<S: Store>(
     rt: &HostRuntime,
     editor: &Editor<S>,
     reply: Result<u32, Refusal>,
-) -> anyhow::Result<()> {
+) -> io::Result<()> {
     match reply {
-        Ok(count) => println!(rt; "ok {count}")?,
-        Err(refusal) => {
-            let number = refusal.number();
-            let detail = detail(rt.alloc(), editor, refusal)?;
-            println!(rt; "refused {number}{detail}")?;
-        }
+        Ok(count) => println!(rt; "ok {count}"),
+        Err(refusal) => print_refusal(rt, editor, refusal),
     }
-    Ok(())
 }
 
-// What is told besides the number of a refusal.
-fn detail<S: Store>(heap: Global, editor: &Editor<S>, refusal: Refusal) -> anyhow::Result<String> {
-    let mut text = String::new(heap);
+// A loop is shown with its signals, and a signal that is absent with its number.
+fn print_refusal<S: Store>(
+    rt: &HostRuntime,
+    editor: &Editor<S>,
+    refusal: Refusal,
+) -> io::Result<()> {
+    let number = refusal.number();
     match refusal {
-        Refusal::Looped => {
-            text.push_str(" loop")?;
-            write_numbers(&mut text, editor.loop_shown())?;
-        }
-        Refusal::AbsentInUse => if let Some(signal) = editor.missing() {
-            write!(text, " absent {signal}")?;
+        Refusal::Looped => println!(rt; "refused {number} loop{}", Numbers(editor.loop_shown())),
+        Refusal::AbsentInUse => match editor.missing() {
+            Some(signal) => println!(rt; "refused {number} absent {signal}"),
+            None => println!(rt; "refused {number}"),
         },
-        _ => {}
+        _ => println!(rt; "refused {number}"),
     }
-    Ok(text)
 }
 
-// Each number behind a blank.
-pub fn write_numbers(text: &mut String, numbers: &[u32]) -> anyhow::Result<()> {
-    for number in numbers {
-        write!(text, " {number}")?;
-    }
-    Ok(())
+pub fn print_bad(rt: &HostRuntime, line: u64) -> io::Result<()> {
+    println!(rt; "bad line {line}")
 }
 
-pub fn print_bad(rt: &HostRuntime, line: u64) -> anyhow::Result<()> {
-    println!(rt; "bad line {line}")?;
-    Ok(())
-}
-
-pub fn print_flags(rt: &HostRuntime, flags: &[u8; 1024]) -> anyhow::Result<()> {
+pub fn print_flags(rt: &HostRuntime, flags: &[u8; 1024]) -> io::Result<()> {
     if flags.iter().any(|flag| *flag != 0) {
         println!(rt; "flags not clean")?;
     }

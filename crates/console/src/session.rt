@@ -7,12 +7,9 @@ use desk::Desk;
 use editor::{Call, Editor};
 use netlist::Refusal;
 use std::io::BufRead;
-use std::ops::ControlFlow;
-use words::{InverseLog, Snapshot, Store};
+use words::{InverseLog, LEVELS_MOST, Snapshot, Store};
 
 const SIGNALS_MOST: u32 = 1024;
-
-const LEVELS_MOST: u32 = 8;
 
 // The store below the editor.
 #[derive(Clone, Copy)]
@@ -22,7 +19,8 @@ pub enum Bottom {
 }
 
 impl Bottom {
-    // How often the memory has room for the words of a store.
+    // How often the memory has room for the words of a store. The console plays in memory of just the needed size, and a snapshot takes about
+    // a third of what an inverse log does: `memory` would lend it as much.
     fn parts(self, limit: usize) -> usize {
         match self {
             Bottom::Log => limit.saturating_mul(3).saturating_add(2),
@@ -31,39 +29,38 @@ impl Bottom {
     }
 }
 
-// How many words the store of an editor has. None where no editor has the shape: its making refuses by itself.
-fn words_of(shape: Shape) -> usize {
-    if shape.signals > SIGNALS_MOST || shape.limit > LEVELS_MOST {
-        return 0;
+impl Shape {
+    // How many words the store of an editor has. None where no editor has the shape: its making refuses by itself.
+    fn words(self) -> usize {
+        if self.signals > SIGNALS_MOST || self.limit as usize > LEVELS_MOST {
+            return 0;
+        }
+        24 * self.signals as usize + 24
     }
-    24 * shape.signals as usize + 24
 }
 
 // Reads up to the first line that makes an editor. There is none yet for another line to call.
-pub fn first_editor<R: BufRead>(
+pub fn first_editor<R: BufRead + Drop>(
     rt: &HostRuntime,
     lines: &mut Lines<R>,
 ) -> anyhow::Result<Option<Shape>> {
-    for _ in 0..u64::MAX {
-        let Some(line) = lines.next_line(rt.alloc())? else {
-            break;
-        };
-        match parse(line.as_slice()) {
+    for (number, line) in lines {
+        match parse(line?.as_slice()) {
             Some(Command::Editor(shape)) => return Ok(Some(shape)),
-            _ => print_bad(rt, lines.number())?,
+            _ => print_bad(rt, number)?,
         }
     }
     Ok(None)
 }
 
 // Plays the lines for one editor, and gives the shape of the next one, if the input asks for it.
-pub fn play_one<R: BufRead>(
+pub fn play_one<R: BufRead + Drop>(
     rt: &HostRuntime,
     bottom: Bottom,
     shape: Shape,
     lines: &mut Lines<R>,
 ) -> anyhow::Result<Option<Shape>> {
-    let size = words_of(shape);
+    let size = shape.words();
     let limit = shape.limit as usize;
     let mut memory = vec![in rt.alloc(); 0u32; size.saturating_mul(bottom.parts(limit))]?;
     match bottom {
@@ -72,8 +69,8 @@ pub fn play_one<R: BufRead>(
     }
 }
 
-// Makes an editor over a store, says how its test went, and plays the lines for it. A batch that is still open then is dropped.
-fn play_on<S: Store + Drop, R: BufRead>(
+// Makes an editor over a store, and plays the lines for it. A batch that is still open then is dropped.
+fn play_on<S: Store + Drop, R: BufRead + Drop>(
     rt: &HostRuntime,
     store: S,
     shape: Shape,
@@ -81,76 +78,49 @@ fn play_on<S: Store + Drop, R: BufRead>(
 ) -> anyhow::Result<Option<Shape>> {
     let test = Editor::test(&store, shape.signals);
     let mut desk = Desk::new(store, shape.signals);
-    let next = play_made(rt, &mut desk, test, lines);
+    let mut session = Session {
+        rt,
+        desk: &mut desk,
+    };
+    let next = session.play(test, lines);
     let _ = desk.close();
     next
 }
 
-fn play_made<S: Store, R: BufRead>(
-    rt: &HostRuntime,
-    desk: &mut Desk<S>,
-    test: Result<(), Refusal>,
-    lines: &mut Lines<R>,
-) -> anyhow::Result<Option<Shape>> {
-    print_reply(rt, desk.editor(), test.map(|()| 0))?;
-    play_lines(rt, desk, lines)
+// An editor that is played from the input.
+#[derive(Drop)]
+struct Session<'a, S: Store> {
+    rt: &'a HostRuntime,
+    desk: &'a mut Desk<S>,
 }
 
-// Plays the lines for an editor. Gives the shape of the next one, if the input asks for it.
-fn play_lines<S: Store, R: BufRead>(
-    rt: &HostRuntime,
-    desk: &mut Desk<S>,
-    lines: &mut Lines<R>,
-) -> anyhow::Result<Option<Shape>> {
-    let mut flags = [0; 1024];
-    for _ in 0..u64::MAX {
-        let Some(line) = lines.next_line(rt.alloc())? else {
-            break;
-        };
-        if let ControlFlow::Break(shape) = answer(
-            rt,
-            desk,
-            line.as_slice(),
-            lines.number(),
-            &mut flags,
-        )? {
-            return Ok(Some(shape));
+impl<S: Store> Session<'_, S> {
+    // Says how the test of the editor went, and plays the lines for it. Gives the shape of the next one, if the input asks for it.
+    fn play<R: BufRead + Drop>(
+        &mut self,
+        test: Result<(), Refusal>,
+        lines: &mut Lines<R>,
+    ) -> anyhow::Result<Option<Shape>> {
+        print_reply(self.rt, self.desk.editor(), test.map(|()| 0))?;
+        for (number, line) in lines {
+            match parse(line?.as_slice()) {
+                Some(Command::Editor(shape)) => return Ok(Some(shape)),
+                Some(Command::Call(call)) => self.call(call)?,
+                Some(Command::Show) => show(self.rt, self.desk.editor())?,
+                None => print_bad(self.rt, number)?,
+            }
         }
+        Ok(None)
     }
-    Ok(None)
-}
 
-// Plays one line, unless it makes the next editor.
-fn answer<S: Store>(
-    rt: &HostRuntime,
-    desk: &mut Desk<S>,
-    line: &[u8],
-    number: u64,
-    flags: &mut [u8; 1024],
-) -> anyhow::Result<ControlFlow<Shape>> {
-    match parse(line) {
-        Some(Command::Call(call)) => call_editor(rt, desk, call, flags)?,
-        Some(Command::Editor(shape)) => return Ok(ControlFlow::Break(shape)),
-        Some(Command::Show) => show(rt, desk.editor())?,
-        None => print_bad(rt, number)?,
+    // The flags that a call is handed may hold anything.
+    fn call(&mut self, call: Call) -> anyhow::Result<()> {
+        let mut flags = [165; 1024];
+        let reply = self.desk.play(call, &mut flags);
+        print_reply(self.rt, self.desk.editor(), reply)?;
+        if takes_flags(call) {
+            print_flags(self.rt, &flags)?;
+        }
+        Ok(())
     }
-    Ok(ControlFlow::Continue(()))
-}
-
-// The flags that a call is handed may hold anything.
-fn call_editor<S: Store>(
-    rt: &HostRuntime,
-    desk: &mut Desk<S>,
-    call: Call,
-    flags: &mut [u8; 1024],
-) -> anyhow::Result<()> {
-    if takes_flags(call) {
-        *flags = [165; 1024];
-    }
-    let reply = desk.play(call, flags);
-    print_reply(rt, desk.editor(), reply)?;
-    if takes_flags(call) {
-        print_flags(rt, flags)?;
-    }
-    Ok(())
 }

@@ -1,59 +1,53 @@
 // The netlist and the order of an editor, printed.
-use crate::reply::write_numbers;
+use crate::reply::Numbers;
 use editor::{Editor, Kind};
-use std::alloc::Global;
+use std::{fmt, io};
 use words::Store;
 
 pub fn show<S: Store>(rt: &HostRuntime, editor: &Editor<S>) -> anyhow::Result<()> {
-    let levels = editor.levels();
-    println!(rt; "levels {levels}")?;
-    show_order(rt, editor)?;
+    println!(rt; "levels {}", editor.levels())?;
+    let order: Vec<u32> = (0..editor.signals())
+        .filter_map(|place| editor.signal_at(place))
+        .collect(rt.alloc())?;
+    println!(rt; "order{}", Numbers(&order))?;
     for signal in 0..editor.signals() {
         show_signal(rt, editor, signal)?;
     }
     Ok(())
 }
 
-fn show_order<S: Store>(rt: &HostRuntime, editor: &Editor<S>) -> anyhow::Result<()> {
-    let mut order = String::new(rt.alloc());
-    for signal in (0..editor.signals()).filter_map(|place| editor.signal_at(place)) {
-        write!(order, " {signal}")?;
-    }
-    println!(rt; "order{order}")?;
-    Ok(())
-}
-
 // A signal that is neither driven nor marked prints nothing.
-fn show_signal<S: Store>(rt: &HostRuntime, editor: &Editor<S>, signal: u32) -> anyhow::Result<()> {
+fn show_signal<S: Store>(rt: &HostRuntime, editor: &Editor<S>, signal: u32) -> io::Result<()> {
     let kind = editor.kind(signal).unwrap_or(Kind::Absent);
     let output = editor.output_mark(signal).unwrap_or(false);
     if kind == Kind::Absent && !output {
         return Ok(());
     }
-    let mark = u32::from(output);
-    let driver = driver_text(rt.alloc(), editor, signal)?;
-    println!(rt; "signal {signal} {kind} {mark}{driver}")?;
-    Ok(())
+    println!(rt;
+        "signal {signal} {kind} {}{}",
+        u32::from(output),
+        Driver { editor, signal }
+    )
 }
 
-// What a gate or a latch has besides its output mark.
-fn driver_text<S: Store>(heap: Global, editor: &Editor<S>, signal: u32) -> anyhow::Result<String> {
-    let mut text = String::new(heap);
-    if let Some(table) = editor.table(signal) {
-        let bits = table.bits();
-        write!(text, " table {bits} pins")?;
-    }
-    if let Some(start) = editor.start(signal) {
-        write!(text, " start {start} pin")?;
-    }
-    write_pins(&mut text, editor, signal)?;
-    Ok(text)
+// What drives a signal: a gate's table or a latch's start, and the signals that the pins are on.
+#[derive_where(Clone, Copy)]
+struct Driver<'a, S: Store> {
+    editor: &'a Editor<S>,
+    signal: u32,
 }
 
-// The signals that the pins are on.
-fn write_pins<S: Store>(text: &mut String, editor: &Editor<S>, signal: u32) -> anyhow::Result<()> {
-    if let Some(pins) = editor.pins(signal) {
-        write_numbers(text, pins.as_slice())?;
+impl<S: Store> fmt::Display for Driver<'_, S> {
+    fn fmt<W: fmt::Write>(&self, f: &mut fmt::Formatter<W>) -> fmt::Result {
+        if let Some(table) = self.editor.table(self.signal) {
+            write!(f, " table {} pins", table.bits())?;
+        }
+        if let Some(start) = self.editor.start(self.signal) {
+            write!(f, " start {start} pin")?;
+        }
+        if let Some(pins) = self.editor.pins(self.signal) {
+            write!(f, "{}", Numbers(pins.as_slice()))?;
+        }
+        Ok(())
     }
-    Ok(())
 }

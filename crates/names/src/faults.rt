@@ -15,9 +15,9 @@ pub enum NameFault {
 }
 
 impl NameFault {
-    // The number of a fault of the text; none for want of memory.
-    pub fn number(&self) -> Option<u8>
-        ensures { result ≡ name_fault self.now }
+    // A host and a report are told a fault of the text by number. Want of memory is no such fault, and has none.
+    pub fn number(self) -> Option<u32>
+        ensures { result ≡ name_fault self }
     {
         match self {
             NameFault::NoRoom => Some(36),

@@ -61,16 +61,16 @@ known-means pins listed bits output lines known built = record {
 pub known_more :
     (pins listed : ℕ) (lines : List Line) (output : Option Output) (line : Line) (row : Row)
     → Known pins output listed lines → Stands pins line row → Ends (Some row.output) (lines ++ line ∷ [])
-    → Known pins (Some row.output) (bit_or listed row.minterms) (lines ++ line ∷ [])
+    → Known pins (Some row.output) (bit_or listed row.covered.bits) (lines ++ line ∷ [])
 known_more pins listed lines output line row known stands ends = record {
   formed = All-push (Formed pins) lines line known.formed stands.formed;
   ends = ends;
   lists = record {
-    fits = or_lt (2 ^ pins) listed row.minterms known.lists.fits stands.covers.fits;
+    fits = or_lt (2 ^ pins) listed row.covered.bits known.lists.fits stands.covers.fits;
     bitwise = λ m l.
-        let either = bit_at_or listed row.minterms m in
+        let either = bit_at_or listed row.covered.bits m in
         let low = bit_at-lt listed m in
-        let low' = bit_at-lt row.minterms m in (
+        let low' = bit_at-lt row.covered.bits m in (
           (λ one. ⊎_elim
               (λ e. let p = (known.lists.bitwise m l).0 e in (p.0, has_append_left lines (line ∷ []) p.0 p.1, p.2))
               (λ e. (line, has_push lines line, (stands.covers.bitwise m l).0 (omega arith)))

@@ -1,7 +1,17 @@
 -- A table written line by line into a cover.
-use Rattle.std.proofs.Common.{◌≡◌, ℕ, ◌+◌, ◌^◌, ◌≤◌, false, eqb, List, [], ◌∷◌, ◌++◌, map, take, codes, sym, refl, ap, ◌∙◌, subst}
+use Rattle.std.proofs.Common.{◌≡◌, ℕ, ◌^◌, ◌≤◌, Bool, nat_eq, None, Option, List, arith, [], ◌∷◌, ◌++◌, map, take, codes, sym, refl, ap, ◌∙◌, subst}
 use Rattle.std.proofs.lemmas.List.FromFn.{take-map-range_with_len}
-use Rattle.std.proofs.lemmas.List.{map-append}
+use Rattle.std.proofs.lemmas.List.{map-append, map-id}
+use denote.Param.Members.{Mut}
+use denote.Ref.{Bor}
+use Rattle.std.specs.Fn.{CalledAt}
+use Rattle.std.specs.Iterator.{Yields}
+use Rattle.std.specs.Iterator.Adapters.{filter_source, filter_callee, filter_steps}
+use Rattle.std.proofs.iter.Yields.{nat_range_steps}
+use Rattle.std.proofs.lemmas.Iterator.{YieldsList-from_range}
+use Rattle.std.proofs.lemmas.Iterator.Consumers.{YieldsList-from_filter, YieldsList-end}
+use Rattle.std.specs.declared.iter.Filter.{Filter}
+use Rattle.std.specs.declared.ops.Range.{Range}
 use Rattle.table.specs.declared.shape.Cover.{Cover}
 use Rattle.table.specs.declared.shape.Table.{Table}
 use Rattle.table.specs.declared.fault.CoverFault.{CoverFault}
@@ -10,16 +20,12 @@ use Rattle.table.specs.Bit.{bit}
 use Rattle.table.specs.Line.{Line, Differs, Means, Gives}
 use Rattle.table.specs.Cover.{Read, Refuses}
 use Rattle.table.specs.Written.{character_at, plane_at, ones_below, line_at, lines_of}
-use Rattle.table.proofs.Ones.{ones_yes, ones_no, line-formed, reads-back, means_one_table}
+use Rattle.table.proofs.Ones.{line-formed, reads-back, means_one_table}
 
--- The lines of the 1-minterms below a number.
-abbrev pub lines_below : Table → ℕ → List Line
-lines_below table from = map (line_at table.pins) (ones_below table.bits from)
-
--- The cover has taken those lines.
-pub record Wrote (table : Table) (from : ℕ) (cover : Cover) : Type 0 where
-  pub same : cover.pins ≡ table.pins
-  pub read : Read (lines_below table from) cover
+-- The cover has taken the lines of these minterms.
+pub record Wrote (table : Table) (ones : List ℕ) (cover : Cover) : Type 0 where
+  pub same : cover.listed.pins ≡ table.pins
+  pub read : Read (map (line_at table.pins) ones) cover
 
 -- The first characters of four are the plane of a gate with fewer pins.
 pub cut-plane :
@@ -37,37 +43,38 @@ never_refused : (pins one : ℕ) (ones : List ℕ) (fault : CoverFault) → Refu
 never_refused pins one ones Malformed refused = refused (line-formed pins one)
 never_refused pins one ones BothWays refused = never_differs pins one ones refused.1
 
-module _ (table : Table) (from : ℕ) (cover : Cover) (wrote : Wrote table from cover) where
-  pub wrote-more :
-      (line : Line) (after : Cover) → line ≡ line_at table.pins from → after.pins ≡ cover.pins → bit table.bits from ≡ 1
-      → Read (lines_below table from ++ line ∷ []) after → Wrote table (from + 1) after
-  wrote-more line after is same one read = record {
-    same = same ∙ wrote.same;
-    read = subst (λ lines. Read lines after)
-        (ap (λ x. lines_below table from ++ x ∷ []) is
-        ∙ sym (ap (map (line_at table.pins)) (ones_yes table.bits from one)
-        ∙ map-append (line_at table.pins) (ones_below table.bits from) (from ∷ [])))
-        read;
-  }
+-- A filter of the minterms by the table's value, run to its end, yields the 1-minterms.
+pub ones_yielded :
+    {F : Type 0} (g : Mut F (Bor ℕ × Unit {0}) Bool) {f : F} (bits rows : ℕ) (xs : List ℕ) (s t u : Filter (Range ℕ) F) (r : Option ℕ)
+    → filter_source s ≡ record { start = 0; end = rows } → filter_callee s ≡ f → Yields (filter_steps nat_range_steps g) s xs t
+    → r ≡ None → filter_steps nat_range_steps g t r u
+    → ((x : ℕ) (b : Bool) (q : F) → CalledAt g f x b q → (q ≡ f) × (b ≡ nat_eq (bit bits x) 1)) → xs ≡ ones_below bits rows
+ones_yielded g bits rows xs s t u r from is yielded none step called =
+    let road = YieldsList-from_filter g (λ m. nat_eq (bit bits m) 1) (YieldsList-from_range 0 rows rows from (omega arith)) is called in
+    sym (map-id xs) ∙ (YieldsList-end road xs t yielded r u none step).0
 
-  pub wrote_past : eqb (bit table.bits from) 1 ≡ false → Wrote table (from + 1) cover
-  wrote_past none = record {
-    same = wrote.same;
-    read = subst (λ ones. Read (map (line_at table.pins) ones) cover) (sym (ones_no table.bits from none)) wrote.read;
+module _ (table : Table) (ones : List ℕ) (cover : Cover) (wrote : Wrote table ones cover) where
+  abbrev pub lines : List Line
+  lines = map (line_at table.pins) ones
+
+  pub wrote-more :
+      (one : ℕ) (line : Line) (after : Cover) → line ≡ line_at table.pins one → after.listed.pins ≡ cover.listed.pins
+      → Read (lines ++ line ∷ []) after → Wrote table (ones ++ one ∷ []) after
+  wrote-more one line after is same read = record {
+    same = same ∙ wrote.same;
+    read = subst (λ ls. Read ls after) (ap (λ x. lines ++ x ∷ []) is ∙ sym (map-append (line_at table.pins) ones (one ∷ []))) read;
   }
 
   pub wrote-refused :
-      (at : ℕ) (line : Line) (fault : CoverFault) → line ≡ line_at table.pins from → at ≡ cover.pins
-      → Refuses at (lines_below table from) line fault → ⊥
-  wrote-refused at line fault is same refused =
-      never_refused table.pins from (ones_below table.bits from) fault
-      (subst (λ x. Refuses table.pins (lines_below table from) x fault) is
-      (subst (λ n. Refuses n (lines_below table from) line fault) (same ∙ wrote.same) refused))
+      (one at : ℕ) (line : Line) (fault : CoverFault) → line ≡ line_at table.pins one → at ≡ cover.listed.pins → Refuses at lines line fault → ⊥
+  wrote-refused one at line fault is same refused =
+      never_refused table.pins one ones fault
+      (subst (λ x. Refuses table.pins lines x fault) is (subst (λ n. Refuses n lines line fault) (same ∙ wrote.same) refused))
 
   pub wrote-all :
-      (bits : ℕ) → from ≡ 2 ^ table.pins
-      → ((lines : List Line) → Read lines cover → Gives cover.pins lines bits) → bits ≡ table.bits
+      (bits : ℕ) → ones ≡ ones_below table.bits (2 ^ table.pins)
+      → ((ls : List Line) → Read ls cover → Gives cover.listed.pins ls bits) → bits ≡ table.bits
   wrote-all bits all gives =
       means_one_table table.pins (lines_of table.pins table.bits) bits table.bits
-      (subst (λ k. Means table.pins (lines_below table k) bits) all (subst (λ n. Means n (lines_below table from) bits) wrote.same (gives (lines_below table from) wrote.read).1))
+      (subst (λ ns. Means table.pins (map (line_at table.pins) ns) bits) all (subst (λ n. Means n lines bits) wrote.same (gives lines wrote.read).1))
       (reads-back table.pins table.bits table.fits).1

@@ -25,7 +25,7 @@ pub record Known (pins : ℕ) (output : Option Output) (listed : ℕ) (lines : L
 
 -- These are the lines that the cover has taken.
 abbrev pub Read : List Line → Cover → Type 0
-Read lines cover = Known cover.pins cover.output cover.listed lines
+Read lines cover = Known cover.listed.pins cover.output cover.listed.bits lines
 
 -- Why a line cannot follow these lines. A malformed line is called that whatever its output.
 abbrev pub Refuses : ℕ → List Line → Line → CoverFault → Type 0
@@ -34,5 +34,5 @@ Refuses pins lines line BothWays = Formed pins line × Differs lines line
 
 -- One line more after these lines: it is taken where it is well formed and ends as they do, and else refused.
 abbrev pub Takes : List Line → Line → Cover → Result (Unit {0}) CoverFault → Type 0
-Takes lines line after (Ok done) = Formed after.pins line × (Differs lines line → ⊥) × Read (lines ++ line ∷ []) after
-Takes lines line after (Err fault) = Refuses after.pins lines line fault
+Takes lines line after (Ok done) = Formed after.listed.pins line × (Differs lines line → ⊥) × Read (lines ++ line ∷ []) after
+Takes lines line after (Err fault) = Refuses after.listed.pins lines line fault

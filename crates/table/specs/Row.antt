@@ -18,7 +18,8 @@ Ending output (Err fault) = (fault ≡ Malformed) × ((how : Output) → output 
 pub record Stands (pins : ℕ) (line : Line) (row : Row) : Type 0 where
   pub formed : Formed pins line
   pub ends : line.output ≡ written row.output
-  pub covers : Holds pins row.minterms (Covers line.plane)
+  pub same : row.covered.pins ≡ pins
+  pub covers : Holds pins row.covered.bits (Covers line.plane)
 
 abbrev pub Parses : ℕ → Line → Result Row CoverFault → Type 0
 Parses pins line (Ok row) = Stands pins line row

@@ -7,7 +7,7 @@ ghost use Rattle.table.specs.Reading.{line_of};
 
 use crate::fault::{CoverFault, TableFault};
 use crate::shape::{Cover, CoverLine, Output, Table};
-use crate::truth::{bit_at, rows};
+use crate::truth::rows;
 
 /// Whether each character of a plane is 0, 1 or -.
 fn formed(plane: &[u8]) -> bool
@@ -37,18 +37,17 @@ fn covers(plane: &[u8], minterm: u32) -> bool
     true
 }
 
-/// The first so many minterms that pass a test, a bit for each.
-fn passing<F: Fn(u32) -> bool>(rows: u32, test: F) -> u32
-    requires few { rows ≤ 16 }
-    requires asked { (m : ℕ) → m < rows → F.pre test m }
-    ensures fits { result < 2 ^ rows }
-    ensures each { (m : ℕ) → m < rows → F.post test m (bit result m == 1) }
+/// The table that is 1 at the minterms that pass a test.
+fn passing<F: Fn(u32) -> bool>(pins: u32, test: F) -> Table
+    requires few { pins ≤ 4 }
+    requires called { F.IsAlwaysCallable test }
+    ensures pins { result.pins ≡ pins }
+    ensures each { (m : ℕ) → m < 2 ^ pins → F.post test m (bit result.bits m == 1) }
 {
-    let mut set = 0;
-    for minterm in (0..rows).rev() {
-        set = 2 * set + u32::from(test(minterm));
-    }
-    set
+    let bits = (0..rows(pins)).fold(0, |set, minterm| {
+        set | u32::from(test(minterm)).unbounded_shl(minterm)
+    });
+    Table { pins, bits }
 }
 
 impl TryFrom<&[u8]> for Output {
@@ -58,43 +57,36 @@ impl TryFrom<&[u8]> for Output {
 
     fn try_from(output: &[u8]) -> Result<Output, CoverFault> {
         match output {
-            [b] => match *b as char {
-                '0' => Ok(Output::Zero),
-                '1' => Ok(Output::One),
-                _ => Err(CoverFault::Malformed),
-            },
+            b"0" => Ok(Output::Zero),
+            b"1" => Ok(Output::One),
             _ => Err(CoverFault::Malformed),
         }
     }
 }
 
-/// A line that is well formed: the minterms that its plane covers, and how it ends.
+/// A line that is well formed: the table that is 1 where its plane covers, and how it ends.
 #[derive(Clone, Copy)]
 pub(crate) struct Row {
-    minterms: u32,
+    covered: Table,
     output: Output,
 }
 
 impl Cover {
     /// No lines yet, of a gate with so many pins.
     pub fn new(pins: u32) -> Result<Cover, TableFault>
-        ensures { MatchResult result (λ cover. (cover.pins ≡ pins) × Read [] cover) (λ _. 4 < pins) }
+        ensures { MatchResult result (λ cover. (cover.listed.pins ≡ pins) × Read [] cover) (λ _. 4 < pins) }
     {
-        if pins > 4 {
-            return Err(TableFault::Unfit);
-        }
         Ok(Cover {
-            pins,
             output: None,
-            listed: 0,
+            listed: Table::new(pins, 0)?,
         })
     }
 
     /// How many pins the gate has.
     pub fn pins(&self) -> u32
-        ensures { result ≡ self.now.pins }
+        ensures { result ≡ self.now.listed.pins }
     {
-        self.pins
+        self.listed.pins
     }
 
     /// Whether a line that ends so may follow.
@@ -106,36 +98,38 @@ impl Cover {
 
     /// What is kept of a line.
     fn row(self, line: CoverLine) -> Result<Row, CoverFault>
-        ensures { Parses self.pins (line_of line.entry) result }
+        ensures { Parses self.listed.pins (line_of line.entry) result }
     {
-        if line.plane.len() != self.pins as usize || !formed(line.plane) {
+        if line.plane.len() != self.listed.pins as usize || !formed(line.plane) {
             return Err(CoverFault::Malformed);
         }
         Ok(Row {
             output: Output::try_from(line.output)?,
-            minterms: passing(rows(self.pins), |minterm| covers(line.plane, minterm)),
+            covered: passing(self.listed.pins, |minterm| covers(line.plane, minterm)),
         })
     }
 
     /// One row more, where it ends as those before it.
     fn with(self, row: Row) -> Result<Cover, CoverFault>
-        requires { row.minterms < 2 ^ (2 ^ self.pins) }
-        ensures same { IfOk result (λ after. after.pins ≡ self.pins) }
-        ensures joins { (lines : List Line) (line : Line) → Read lines self → Stands self.pins line row → Joins lines line result }
+        requires { row.covered.pins ≡ self.listed.pins }
+        ensures same { IfOk result (λ after. after.listed.pins ≡ self.listed.pins) }
+        ensures joins { (lines : List Line) (line : Line) → Read lines self → Stands self.listed.pins line row → Joins lines line result }
     {
         if !self.allows(row.output) {
             return Err(CoverFault::BothWays);
         }
         Ok(Cover {
-            pins: self.pins,
             output: Some(row.output),
-            listed: self.listed | row.minterms,
+            listed: Table {
+                pins: self.listed.pins,
+                bits: self.listed.bits | row.covered.bits,
+            },
         })
     }
 
     /// One line more. A refused line leaves the cover as it was.
     pub fn line(&mut self, line: CoverLine) -> Result<(), CoverFault>
-        ensures same { (self.new.pins ≡ self.old.pins) × (OnErr result (self.new ≡ self.old)) }
+        ensures same { (self.new.listed.pins ≡ self.old.listed.pins) × (OnErr result (self.new ≡ self.old)) }
         ensures takes { (lines : List Line) → Read lines self.old → Takes lines (line_of line.entry) self.new result }
     {
         *self = self.with(self.row(line)?)?;
@@ -144,24 +138,20 @@ impl Cover {
 
     /// The value at a minterm, by how the lines end and whether one of them covers it.
     fn value(self, minterm: u32) -> bool
-        ensures { Decides result (IsOne self.output (bit self.listed minterm == 1)) }
+        ensures { Decides result (IsOne self.output (bit self.listed.bits minterm == 1)) }
     {
-        let covered = bit_at(self.listed, minterm) == 1;
-        match self.output {
-            None => false,
-            Some(Output::One) => covered,
-            Some(Output::Zero) => !covered,
-        }
+        let covered = self.listed.value(minterm);
+        self.output.is_some_and(|output| match output {
+            Output::One => covered,
+            Output::Zero => !covered,
+        })
     }
 
     /// The table that the lines taken mean.
     pub fn table(&self) -> Table
-        ensures pins { result.pins ≡ self.now.pins }
-        ensures gives { (lines : List Line) → Read lines self.now → Gives self.now.pins lines result.bits }
+        ensures pins { result.pins ≡ self.now.listed.pins }
+        ensures gives { (lines : List Line) → Read lines self.now → Gives self.now.listed.pins lines result.bits }
     {
-        Table {
-            pins: self.pins,
-            bits: passing(rows(self.pins), |minterm| self.value(minterm)),
-        }
+        passing(self.listed.pins, |minterm| self.value(minterm))
     }
 }

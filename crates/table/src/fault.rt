@@ -6,17 +6,15 @@ ghost use Rattle.table.specs.declared.fault.ReadFault.TheVariants.{OfLine, OfTab
 #[derive(Clone, Copy, PartialEq, Eq, Debug)]
 pub enum TableFault {
     /// More than four pins, or a bit at or above 2^pins.
-    Unfit,
+    Unfit = 13,
 }
 
 impl TableFault {
-    /// The number of the refusal.
+    /// The number of the refusal: a host and a report are told it by number.
     pub fn number(self) -> u32
         ensures { result ≡ table_number self }
     {
-        match self {
-            TableFault::Unfit => 13,
-        }
+        self as u32
     }
 }
 
@@ -24,20 +22,17 @@ impl TableFault {
 #[derive(Clone, Copy, PartialEq, Eq, Debug)]
 pub enum CoverFault {
     /// A plane of the wrong length or with another character, or an output that is no 0 or 1.
-    Malformed,
+    Malformed = 35,
     /// The line ends otherwise than the first.
-    BothWays,
+    BothWays = 37,
 }
 
 impl CoverFault {
-    /// The number of the refusal.
+    /// The number of the refusal: a host and a report are told it by number.
     pub fn number(self) -> u32
         ensures { result ≡ cover_number self }
     {
-        match self {
-            CoverFault::Malformed => 35,
-            CoverFault::BothWays => 37,
-        }
+        self as u32
     }
 }
 
@@ -49,7 +44,7 @@ pub enum ReadFault {
 }
 
 impl ReadFault {
-    /// The number of the refusal.
+    /// The number of the refusal: a host and a report are told it by number.
     pub fn number(self) -> u32
         ensures { result ≡ read_number_lem self }
     {

@@ -16,14 +16,11 @@ pub enum Output {
     One,
 }
 
-/// The lines of a cover taken so far: how they all end, and the minterms that they list, a bit for each.
+/// The lines of a cover taken so far: how they all end, and the table that is 1 at the minterms that they list.
 #[derive(Clone, Copy)]
 pub struct Cover {
-    pub(crate) pins: u32,
     pub(crate) output: Option<Output>,
-    pub(crate) listed: u32,
-    ghost few: { pins ≤ 4 },
-    ghost fits: { listed < 2 ^ (2 ^ pins) },
+    pub(crate) listed: Table,
 }
 
 /// A line of a cover as it stands in a text.

@@ -34,14 +34,12 @@ pub fn round_trip(table: Table) -> Result<Table, ReadFault>
     ensures { MatchResult result (λ t. (t.pins ≡ table.pins) × (t.bits ≡ table.bits)) (λ _. ⊥) }
 {
     let mut cover = Cover::new(table.pins)?;
-    for minterm in 0..rows(table.pins) {
-        if table.value(minterm) {
-            let plane = plane(minterm);
-            cover.line(CoverLine {
-                plane: &plane[..table.pins as usize],
-                output: b"1",
-            })?;
-        }
+    for minterm in (0..rows(table.pins)).filter(|minterm| table.value(*minterm)) {
+        let plane = plane(minterm);
+        cover.line(CoverLine {
+            plane: &plane[..table.pins as usize],
+            output: b"1",
+        })?;
     }
     Ok(cover.table())
 }

@@ -3,6 +3,7 @@ use Rattle.std.specs.Prelude.{ℕ, ◌+◌, Bool, cond, not, ◌&&◌, ◌||◌,
 use denote.Ref.{Bor}
 use Rattle.text.specs.Rules.{Rules, separates}
 use Rattle.text.specs.declared.words.Word.{Word}
+use Rattle.text.specs.declared.spot.RawLine.{RawLine}
 
 -- a part of a text: where it begins, the number of its line, and its bytes
 pub record Part : Type 0 where
@@ -35,6 +36,10 @@ is_word_lem k bs = not k.joins || not (length bs == 0)
 abbrev pub words : Rules → ℕ → ℕ → List ℕ → List Part
 words k n at [] = []
 words k n at (b ∷ bs) = filter (λ p. is_word_lem k p.bytes) (parts k n at (b ∷ bs))
+
+-- the words of a line as the code has it
+abbrev pub words_in : Rules → RawLine → List Part
+words_in k line = words k line.at.line line.at.place line.bytes.now
 
 -- the words of what is left of a line, which begins at `at`: none where no part is left
 abbrev pub left_words : Rules → ℕ → ℕ → Option (Bor (List ℕ)) → List Part

@@ -3,7 +3,7 @@ ghost use Rattle.std.specs.Prelude.{◌≡◌, ◌+◌, ◌^◌, ◌<◌, ◌≤
 ghost use Rattle.std.specs.Option.{option_map_or};
 ghost use Rattle.std.specs.List.{position_or_len};
 ghost use Rattle.text.specs.Rules.{marked, separates};
-ghost use Rattle.text.specs.Words.{is_word_lem, words, left_words};
+ghost use Rattle.text.specs.Words.{is_word_lem, words_in, left_words};
 
 use crate::kinds::Text;
 use crate::spot::{RawLine, Spot};
@@ -53,14 +53,10 @@ pub(crate) struct Words<'a, T> {
 impl<'a, T: Text> Words<'a, T> {
     // A line without bytes has no part.
     pub(crate) fn new(line: RawLine<'a>) -> Words<'a, T>
-        ensures { left_words T.Text.rules result.at.line result.at.place result.rest ≡ words T.Text.rules line.entry.at.line line.entry.at.place line.entry.bytes.now }
+        ensures { left_words T.Text.rules result.at.line result.at.place result.rest ≡ words_in T.Text.rules line.entry }
     {
         Words {
-            rest: if line.bytes.is_empty() {
-                None
-            } else {
-                Some(line.bytes)
-            },
+            rest: (!line.bytes.is_empty()).then_some(line.bytes),
             at: line.at,
             kind: PhantomData,
         }

@@ -10,22 +10,19 @@ use std::fmt;
 #[derive(Clone, Copy, PartialEq, Eq, Debug)]
 pub enum TextFault {
     // the text is longer than its limit
-    TooLong,
+    TooLong = 30,
     // a line holds a byte that is neither a separator nor part of a word
-    WrongByte,
+    WrongByte = 31,
     // a line holds a word that is empty or too long
-    WrongWord,
+    WrongWord = 32,
 }
 
 impl TextFault {
-    pub fn number(&self) -> u8
-        ensures { result ≡ text_fault self.now }
+    // A host and a report are told a fault by number.
+    pub fn number(self) -> u32
+        ensures { result ≡ text_fault self }
     {
-        match self {
-            TextFault::TooLong => 30,
-            TextFault::WrongByte => 31,
-            TextFault::WrongWord => 32,
-        }
+        self as u32
     }
 }
 

@@ -3,7 +3,7 @@ ghost use Rattle.std.specs.Prelude.{◌≡◌, ◌<◌, map, length, MatchResult
 ghost use Rattle.std.specs.List.{list_all};
 ghost use Rattle.std.specs.Result.{result_err};
 ghost use Rattle.text.specs.Rules.{word_byte, allowed};
-ghost use Rattle.text.specs.Words.{spelled, words, fits};
+ghost use Rattle.text.specs.Words.{spelled, words_in, fits};
 ghost use Rattle.text.specs.Lines.{shown, judged, first_wrong, Found};
 
 use crate::cut::{Words, is_separator, length_before};
@@ -45,14 +45,14 @@ fn has_right_length(bytes: &[u8]) -> bool
 
 // Whether each word of a line has a right length.
 fn all_fit<T: Text>(line: RawLine) -> bool
-    ensures { result ≡ list_all (λ p. fits p.bytes) (words T.Text.rules line.entry.at.line line.entry.at.place line.entry.bytes.now) }
+    ensures { result ≡ list_all (λ p. fits p.bytes) (words_in T.Text.rules line.entry) }
 {
     Words::<T>::new(line).all(|word| has_right_length(word.bytes))
 }
 
 // A wrong byte anywhere in a line comes before a wrong word.
 fn check<T: Text>(line: RawLine) -> Result<(), TextFault>
-    ensures { result_err result ≡ first_wrong (list_all (allowed T.Text.rules) line.entry.bytes.now) (list_all (λ p. fits p.bytes) (words T.Text.rules line.entry.at.line line.entry.at.place line.entry.bytes.now)) }
+    ensures { result_err result ≡ first_wrong (list_all (allowed T.Text.rules) line.entry.bytes.now) (list_all (λ p. fits p.bytes) (words_in T.Text.rules line.entry)) }
 {
     if !all_allowed::<T>(line.bytes) {
         return Err(TextFault::WrongByte);
@@ -63,9 +63,9 @@ fn check<T: Text>(line: RawLine) -> Result<(), TextFault>
     Ok(())
 }
 
-// Memory can fail only where there is a word.
+// Memory can fail only where there is a word: `collect` does not say so, and so each word is pushed.
 fn split<'a, T: Text>(heap: Global, line: RawLine<'a>) -> Result<Vec<Word<'a>>, AllocError>
-    ensures { MatchResult result (λ v. map spelled v.items ≡ words T.Text.rules line.entry.at.line line.entry.at.place line.entry.bytes.now) (λ _. 0 < length (words T.Text.rules line.entry.at.line line.entry.at.place line.entry.bytes.now)) }
+    ensures { MatchResult result (λ v. map spelled v.items ≡ words_in T.Text.rules line.entry) (λ _. 0 < length (words_in T.Text.rules line.entry)) }
 {
     let mut words = Vec::new(heap);
     for word in Words::<T>::new(line) {

@@ -13,16 +13,15 @@ const MOST_DIGITS: usize = 5;
 #[derive(Clone, Copy, PartialEq, Eq, Debug)]
 pub enum NumberFault {
     // the word is no number of 1 to 5 decimal digits
-    Malformed,
+    Malformed = 35,
 }
 
 impl NumberFault {
-    pub fn number(&self) -> u8
-        ensures { result ≡ number_fault self.now }
+    // A host and a report are told a fault by number.
+    pub fn number(self) -> u32
+        ensures { result ≡ number_fault self }
     {
-        match self {
-            NumberFault::Malformed => 35,
-        }
+        self as u32
     }
 }
 
@@ -64,7 +63,8 @@ fn value_of(digits: &[u8]) -> u32
     n
 }
 
-// The number that a word of 1 to 5 decimal digits writes; leading zeros serve.
+// The number that a word of 1 to 5 decimal digits writes; leading zeros serve. A store command's number, `store_script::decimal`, may have any
+// number of digits and has to be below 2^32: here the digits are counted, and every number of so few fits.
 pub fn read_number(word: &[u8]) -> Result<u32, NumberFault>
     ensures { result ≡ (if is_numeral_lem word.now then Ok (value word.now) else Err NumberFault.Malformed) }
 {

@@ -25,7 +25,6 @@ pub struct Reader<'a, T> {
     at: Spot,
     kind: PhantomData<T>,
     ghost within: { at.place ≤ length text.now },
-    ghost counted: { at.line ≤ at.place + 1 },
 }
 
 impl<'a, T: Text> Reader<'a, T> {
@@ -72,43 +71,39 @@ impl<'a, T: Text> Reader<'a, T> {
         ensures gives { Gives (left T.Text.rules self.old.limit self.old.text.now self.old.at.place self.old.at.line) (left T.Text.rules self.new.limit self.new.text.now self.new.at.place self.new.at.line) result }
     {
         self.check_length()?;
-        next_from::<T>(heap, self.text, &mut self.at)
+        self.next_line_within(heap)
     }
-}
 
-// The next line behind `at` that holds words, or what is wrong with the next line that counts.
-fn next_from<'a, T: Text>(
-    heap: Global,
-    text: &'a [u8],
-    at: &mut Spot,
-) -> Result<Option<Line<'a>>, ReadFault>
-    requires within { at.old.place ≤ length text.now }
-    requires counted { at.old.line ≤ at.old.place + 1 }
-    ensures within { at.new.place ≤ length text.now }
-    ensures counted { at.new.line ≤ at.new.place + 1 }
-    ensures gives { Gives (rest T.Text.rules text.now at.old.place at.old.line) (rest T.Text.rules text.now at.new.place at.new.line) result }
-{
-    while at.place < text.len() {
-        let start = *at;
-        let after = &text[start.place..];
-        let length = length_before(after, [NEWLINE, NEWLINE]);
-        let line = RawLine {
-            bytes: &after[..length],
-            at: start,
-        };
-        let words = words_of::<T>(heap, line)?;
-        *at = start.next_line((length + 1).min(after.len()));
-        if !words.is_empty() {
-            return Ok(Some(Line {
-                number: start.line,
-                words,
-            }));
+    // The same of a text that keeps to its limit.
+    fn next_line_within(&mut self, heap: Global) -> Result<Option<Line<'a>>, ReadFault>
+        ensures text { self.new.text.now ≡ self.old.text.now }
+        ensures limit { self.new.limit ≡ self.old.limit }
+        ensures gives { Gives (rest T.Text.rules self.old.text.now self.old.at.place self.old.at.line) (rest T.Text.rules self.new.text.now self.new.at.place self.new.at.line) result }
+    {
+        while self.at.place < self.text.len() {
+            let start = self.at;
+            let after = &self.text[start.place..];
+            let length = length_before(after, [NEWLINE, NEWLINE]);
+            let words = words_of::<T>(
+                heap,
+                RawLine {
+                    bytes: &after[..length],
+                    at: start,
+                },
+            )?;
+            self.at = start.next_line((length + 1).min(after.len()));
+            if !words.is_empty() {
+                return Ok(Some(Line {
+                    number: start.line,
+                    words,
+                }));
+            }
         }
+        Ok(None)
     }
-    Ok(None)
 }
 
-// All lines of a text that hold words, or the first fault.
+// All lines of a text that hold words, or the first fault. A loop, since a reader is no iterator: at a fault it stays where it is.
 pub fn read_lines<'a, T: Text>(
     heap: Global,
     text: &'a [u8],

@@ -1,11 +1,12 @@
 // Where a byte stands in a text, and a line as it stands there.
-ghost use Rattle.std.specs.Prelude.{◌≡◌, ◌+◌, ◌^◌, ◌<◌, length};
+ghost use Rattle.std.specs.Prelude.{◌≡◌, ◌+◌, ◌^◌, ◌<◌, ◌≤◌, length};
 
-// The place of a byte in its text, and the number of its line.
+// The place of a byte in its text, and the number of its line. Each line before it has a byte, the one that ends it.
 #[derive(Clone, Copy)]
 pub(crate) struct Spot {
     pub(crate) place: usize,
     pub(crate) line: usize,
+    ghost counted: { line ≤ place + 1 },
 }
 
 impl Spot {
@@ -22,8 +23,8 @@ impl Spot {
 
     // `by` bytes on, where the next line begins.
     pub(crate) fn next_line(self, by: usize) -> Spot
-        requires place { self.place + by < 2 ^ 64 }
-        requires line { self.line + 1 < 2 ^ 64 }
+        requires more { 0 < by }
+        requires fits { self.place + by + 1 < 2 ^ 64 }
         ensures { (result.place ≡ self.place + by) × (result.line ≡ self.line + 1) }
     {
         Spot {

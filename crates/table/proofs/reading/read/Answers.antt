@@ -13,7 +13,7 @@ returns-in_err-line c =
     let inv = c.loop-line.invariant in
     let lines = c.args.lines.now in
     let fault = c.in_err-line.field-0.0 in
-    let stops = taken-stops line_of lines c.args.pins c.loop-line.line-index c.loop-line.cover inv _ c.line.new.self.pins fault c.loop-line-test.true told.same.0 (told.takes _ inv.read) in
+    let stops = taken-stops line_of lines c.args.pins c.loop-line.line-index c.loop-line.cover inv _ c.line.new.self.listed.pins fault c.loop-line-test.true told.same.0 (told.takes _ inv.read) in
     rw (p.1, p.2) (record { reads = (inv.few, stops); back = reads_table c.args.pins (map line_of lines) (Err (OfLine fault)) (inv.few, stops) })
 
 pub returns : goal.returns

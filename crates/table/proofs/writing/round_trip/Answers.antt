@@ -1,34 +1,32 @@
-use Rattle.std.proofs.Common.{◌+◌, sym, ◌∙◌, subst, arith}
-use Rattle.std.proofs.lemmas.Bool.{eqb-true}
-use Rattle.table.proofs.Rewritten.{Wrote, lines_below, cut-plane, wrote-more, wrote_past, wrote-refused, wrote-all}
+use Rattle.std.proofs.Common.{rules, tests, ap, ◌∙◌}
+use Rattle.std.specs.Iterator.Adapters.{filter_callee}
+use Rattle.table.specs.Written.{ones_below}
+use Rattle.table.proofs.Rewritten.{lines, cut-plane, ones_yielded, wrote-more, wrote-refused, wrote-all}
 use Rattle.table.proofs.writing.round_trip.Goals as goal
-use Rattle.table.proofs.writing.round_trip.Goals.{then-value+in_ok-line, else-value}
 
 pub returns-in_err-line : goal.returns-in_err-line
 returns-in_err-line c =
     let table = c.args.table in
-    let at = c.loop-minterm.minterm in
+    let ones = c.loop-minterm.yielded in
     let inv = c.loop-minterm.invariant in
     let told = c.in_err-line.ensures in
-    let is = cut-plane table.pins at c.plane-plane.result table.few c.plane-plane.ensures in
-    absurd (wrote-refused table at c.loop-minterm.cover inv c.line.new.self.pins _ _ is told.same.0 (told.takes (lines_below table at) inv.read))
+    let is = cut-plane table.pins c.in-Some.minterm c.plane-plane.result table.few c.plane-plane.ensures in
+    absurd (wrote-refused table ones c.loop-minterm.cover inv c.in-Some.minterm c.line.new.self.listed.pins _ _ is told.same.0 (told.takes (lines table ones c.loop-minterm.cover inv) inv.read))
 
 pub loop-minterm-preserved : goal.loop-minterm-preserved
 loop-minterm-preserved c =
     let table = c.args.table in
-    let at = c.loop-minterm.minterm in
+    let ones = c.loop-minterm.yielded in
     let inv = c.loop-minterm.invariant in
-    elim c.if-value.branch [
-      | then-value+in_ok-line w ↦
-          (let told = w.in_ok-line.ensures in
-          let is = cut-plane table.pins at w.plane-plane.result table.few w.plane-plane.ensures in
-          let more = wrote-more table at c.loop-minterm.cover inv _ w.line.new.self is told.same.0 (eqb-true _ 1 (sym c.value.ensures ∙ w.if-value.true)) (told.takes (lines_below table at) inv.read).2 in
-          subst (Wrote table (at + 1)) (sym w.cover-is) more)
-      | else-value w ↦ subst (Wrote table (at + 1)) (sym w.cover-is) (wrote_past table at c.loop-minterm.cover inv (sym c.value.ensures ∙ w.if-value.false))
-    ]
+    let told = c.in_ok-line.ensures in
+    let is = cut-plane table.pins c.in-Some.minterm c.plane-plane.result table.few c.plane-plane.ensures in
+    wrote-more table ones c.loop-minterm.cover inv c.in-Some.minterm _ c.line.new.self is told.same.0 (told.takes (lines table ones c.loop-minterm.cover inv) inv.read).2
 
 pub returns : goal.returns
 returns c =
+    let table = c.args.table in
+    let ones = c.loop-minterm.yielded in
     let inv = c.loop-minterm.invariant in
     let told = c.table.ensures in
-    (told.pins ∙ inv.same, wrote-all c.args.table c.loop-minterm.minterm c.loop-minterm.cover inv c.table.result.bits (omega (arith, c.rows-minterm-end.ensures.value)) told.gives)
+    let all = ones_yielded _ table.bits c.rows.result ones c.into_iter-minterm-iterator.result c.loop-minterm.minterm-iterator c.next.new.self c.next.result (cc) (ap filter_callee c.into_iter-minterm-iterator.ensures.into_iter_gives ∙ c.filter-minterm-items.ensures.closure) c.loop-minterm.yielded_by c.in-None.is c.next.ensures.steps (λ x b q k. search (rules, tests)) in
+    (told.pins ∙ inv.same, wrote-all table ones c.loop-minterm.cover inv c.table.result.bits (all ∙ ap (ones_below table.bits) c.rows.ensures.value) told.gives)

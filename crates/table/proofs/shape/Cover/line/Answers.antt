@@ -11,4 +11,4 @@ returns-in_err-self-clause-takes c =
     let stands = c.in_ok-row.ensures in
     rw (p.1, p.2) (λ lines read.
     let joins = c.in_err-self.ensures.joins lines line read stands in
-    subst (λ fault. Refuses c.args.self.now.pins lines line fault) (sym joins.0) (stands.formed, joins.1))
+    subst (λ fault. Refuses c.args.self.now.listed.pins lines line fault) (sym joins.0) (stands.formed, joins.1))

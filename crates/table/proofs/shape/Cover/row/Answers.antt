@@ -1,6 +1,6 @@
-use Rattle.std.proofs.Common.{⊎_elim, rules}
+use Rattle.std.proofs.Common.{⊎_elim, rules, subst}
 use Rattle.std.proofs.lemmas.Result.{err_from_is_err_and}
-use Rattle.table.specs.Line.{Covers}
+use Rattle.table.specs.Line.{Covers, Holds}
 use Rattle.table.specs.declared.shape.Output.TheVariants.{Zero, One}
 use Rattle.table.proofs.Build.{holds_passing}
 use Rattle.table.proofs.shape.Cover.row.Goals as goal
@@ -15,7 +15,8 @@ pub returns : goal.returns
 returns c = record {
   formed = search rules;
   ends = search rules;
+  same = c.passing.ensures.pins;
   covers =
-      holds_passing c.args.self.pins c.rows.result c.passing.result (Covers c.args.line.plane.now) c.rows.ensures.value c.passing.ensures.fits
-      (λ m l. let told = c.passing.ensures.each m l in search rules);
+      subst (λ pins. Holds pins c.passing.result.bits (Covers c.args.line.plane.now)) c.passing.ensures.pins
+      (holds_passing c.passing.result (Covers c.args.line.plane.now) (rw c.passing.ensures.pins (λ m l. let told = c.passing.ensures.each m l in search rules)));
 }
