@@ -18,11 +18,6 @@ pub enum Command {
     Show,
 }
 
-// Whether a call is handed the flags.
-pub fn takes_flags(call: Call) -> bool {
-    matches!(call, Call::Make(Edit::Gate { .. } | Edit::Move { .. }))
-}
-
 // The most numbers that a command has.
 const NUMBERS_MOST: usize = 7;
 

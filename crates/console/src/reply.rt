@@ -1,21 +1,9 @@
 // The line that a call prints.
 use editor::Editor;
 use netlist::Refusal;
-use std::{fmt, io};
+use std::io;
+use store_script::Numbers;
 use words::Store;
-
-// Numbers as they are printed, each behind a blank.
-#[derive(Clone, Copy)]
-pub struct Numbers<'a>(pub &'a [u32]);
-
-impl fmt::Display for Numbers<'_> {
-    fn fmt<W: fmt::Write>(&self, f: &mut fmt::Formatter<W>) -> fmt::Result {
-        for number in self.0 {
-            write!(f, " {number}")?;
-        }
-        Ok(())
-    }
-}
 
 pub fn print_reply<S: Store>(
     rt: &HostRuntime,

@@ -1,5 +1,5 @@
 // The lines that go to one editor, from the one that makes it to the next one that makes another.
-use crate::command::{Command, Shape, parse, takes_flags};
+use crate::command::{Command, Shape, parse};
 use crate::lines::Lines;
 use crate::reply::{print_bad, print_flags, print_reply};
 use crate::show::show;
@@ -118,7 +118,7 @@ impl<S: Store> Session<'_, S> {
         let mut flags = [165; 1024];
         let reply = self.desk.play(call, &mut flags);
         print_reply(self.rt, self.desk.editor(), reply)?;
-        if takes_flags(call) {
+        if matches!(call, Call::Make(edit) if edit.may_put()) {
             print_flags(self.rt, &flags)?;
         }
         Ok(())

@@ -1,7 +1,7 @@
 // The netlist and the order of an editor, printed.
-use crate::reply::Numbers;
 use editor::{Editor, Kind};
 use std::{fmt, io};
+use store_script::Numbers;
 use words::Store;
 
 pub fn show<S: Store>(rt: &HostRuntime, editor: &Editor<S>) -> anyhow::Result<()> {

@@ -1,4 +1,4 @@
-use Rattle.std.proofs.Common.{◌≡◌, ◌<◌, get_or, length, take, subst, arith, rules}
+use Rattle.std.proofs.Common.{◌≡◌, ◌<◌, length, subst, arith, rules}
 use Rattle.std.proofs.lemmas.List.{get_or-take, length-take-le}
 use Rattle.board.proofs.Writes.{only_words-refl, only_words-trans}
 use Rattle.edits.specs.Cells.{Changed, cell_at, as_wired}
