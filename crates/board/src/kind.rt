@@ -6,10 +6,10 @@ use std::fmt;
 
 #[derive(Clone, Copy, PartialEq, Eq, Debug)]
 pub enum Kind {
-    Absent,
-    Input,
-    Gate,
-    Latch,
+    Absent = 0,
+    Input = 1,
+    Gate = 2,
+    Latch = 3,
 }
 
 impl fmt::Display for Kind {
@@ -45,11 +45,6 @@ impl From<Kind> for u32 {
     ghost from_gives = { λ kind r. r ≡ word_of kind };
 
     fn from(kind: Kind) -> u32 {
-        match kind {
-            Kind::Absent => 0,
-            Kind::Input => 1,
-            Kind::Gate => 2,
-            Kind::Latch => 3,
-        }
+        kind as u32
     }
 }

@@ -60,54 +60,40 @@ impl Edit {
 #[derive(Clone, Copy, PartialEq, Eq, Debug)]
 pub enum Refusal {
     // the editor has no signals
-    NoEditor,
+    NoEditor = 1,
     // no batch is open
-    NoBatch,
+    NoBatch = 10,
     // a batch is open
-    BatchOpen,
+    BatchOpen = 11,
     // a signal number is not below M
-    NoSuchSignal,
+    NoSuchSignal = 12,
     // more than four pins, a table bit at or above 2^k, a start over 3, an output mark over 1
-    OutOfRange,
+    OutOfRange = 13,
     // the signal is driven already
-    Driven,
+    Driven = 14,
     // the signal is not driven by the kind needed
-    NotDriven,
+    NotDriven = 15,
     // the pin number is not below the pin count
-    NoSuchPin,
+    NoSuchPin = 16,
     // a pin is on the signal, or it is an output
-    InUse,
+    InUse = 19,
     // D - 1 levels are open
-    NoLevelForMark,
+    NoLevelForMark = 20,
     // no mark is open
-    NoMark,
+    NoMark = 21,
     // a mark is open
-    MarkOpen,
+    MarkOpen = 22,
     // an absent signal is in use
-    AbsentInUse,
+    AbsentInUse = 24,
     // the netlist asked for has a loop
-    Looped,
+    Looped = 25,
 }
 
 impl Refusal {
+    // A host is told numbers, so each refusal has one.
     pub fn number(self) -> u32
         ensures { result ≡ number_of self }
     {
-        match self {
-            Refusal::NoEditor => 1,
-            Refusal::NoBatch => 10,
-            Refusal::BatchOpen => 11,
-            Refusal::NoSuchSignal => 12,
-            Refusal::OutOfRange => 13,
-            Refusal::Driven => 14,
-            Refusal::NotDriven => 15,
-            Refusal::NoSuchPin => 16,
-            Refusal::InUse => 19,
-            Refusal::NoLevelForMark => 20,
-            Refusal::NoMark => 21,
-            Refusal::MarkOpen => 22,
-            Refusal::AbsentInUse => 24,
-            Refusal::Looped => 25,
-        }
+        self as u32
     }
 }

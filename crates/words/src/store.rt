@@ -6,13 +6,13 @@ ghost use Rattle.words.specs.Refusals.{number as number_of};
 #[derive(Clone, Copy, PartialEq, Eq, Debug)]
 pub enum StoreRefusal {
     // the memory is too short, or N or D is outside its range
-    Unfit,
+    Unfit = 1,
     // the number of the word is not below N
-    NoSuchWord,
+    NoSuchWord = 2,
     // D levels are open
-    NoLevelLeft,
+    NoLevelLeft = 3,
     // no level is open
-    NoLevelOpen,
+    NoLevelOpen = 4,
 }
 
 impl StoreRefusal {
@@ -20,12 +20,7 @@ impl StoreRefusal {
     pub fn number(self) -> u32
         ensures { result ≡ number_of self }
     {
-        match self {
-            StoreRefusal::Unfit => 1,
-            StoreRefusal::NoSuchWord => 2,
-            StoreRefusal::NoLevelLeft => 3,
-            StoreRefusal::NoLevelOpen => 4,
-        }
+        self as u32
     }
 }
 
