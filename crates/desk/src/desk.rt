@@ -174,7 +174,7 @@ impl<S: Store> Desk<S> {
         closed(&mut self.held, other.editor.keep(ticket)).err()
     }
 
-    // The same when it is to drop; likewise apart.
+    // The same when it is to drop. It is apart from `keep_at` as `drop_batch` is from `keep`.
     pub fn drop_at<B: Store>(&mut self, other: &mut Desk<B>) -> Option<Refusal>
         ensures told { result ≡ returned_with self.old.held other.old.signals other.old.held }
         ensures own { self.new ≡ self.old }
