@@ -1,4 +1,5 @@
-// The chains of pins: a pin goes onto a signal, or off the one that it is on.
+// The chains of pins: a pin goes onto a signal, or off the one that it is on. That the chains are right and the pin is on the board are
+// premises of clauses: on any words, and for any pin, each call is safe and ends.
 ghost use Rattle.std.specs.Prelude.{◌≡◌, suc, ◌*◌, ◌<◌, slice_set};
 ghost use Rattle.board.specs.Layout.{pin as pin_of};
 ghost use Rattle.board.specs.Chain.{Least, Greatest, Chained, Repins};

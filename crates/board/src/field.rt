@@ -5,23 +5,23 @@ ghost use Rattle.board.specs.Layout.{start_of};
 #[derive(Clone, Copy, Debug)]
 pub enum Field {
     // what drives a signal
-    Kind,
+    Kind = 0,
     // its output mark
-    Output,
+    Output = 1,
     // the table of a gate, or the start of a latch
-    Value,
+    Value = 2,
     // the place of a signal
-    Seat,
+    Seat = 3,
     // the signal at a place
-    Holder,
+    Holder = 4,
     // the first pin on a signal
-    First,
+    First = 5,
     // the signal that a pin is on
-    Pin,
+    Pin = 6,
     // the next pin on the same signal
-    Next,
+    Next = 10,
     // the last pin before it on the same signal
-    Back,
+    Back = 14,
 }
 
 impl Field {
@@ -29,16 +29,6 @@ impl Field {
     pub(crate) fn start(self) -> usize
         ensures { result ≡ start_of self }
     {
-        match self {
-            Field::Kind => 0,
-            Field::Output => 1,
-            Field::Value => 2,
-            Field::Seat => 3,
-            Field::Holder => 4,
-            Field::First => 5,
-            Field::Pin => 6,
-            Field::Next => 10,
-            Field::Back => 14,
-        }
+        self as usize
     }
 }

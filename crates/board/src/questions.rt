@@ -1,4 +1,5 @@
-// What a board tells of a signal.
+// What a board tells of a signal. That the signal is on the board and the words are sound are premises of clauses, and no invariant: any signal
+// may be asked about, on any words.
 ghost use Rattle.std.specs.Prelude.{◌≡◌, ◌<◌, true, ◌⊎◌, Decides};
 ghost use Rattle.netlist.specs.Netlist.{absent, driver_of, output_of, pins_of, Used};
 ghost use Rattle.netlist.specs.Edits.{Pinned};

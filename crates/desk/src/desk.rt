@@ -161,7 +161,8 @@ impl<S: Store> Desk<S> {
 
     // ---- tickets of another desk
 
-    // What an editor without a batch refuses the ticket at hand with, when it is to keep. It is handed back.
+    // What an editor without a batch refuses the ticket at hand with, when it is to keep. It is handed back. None where nothing is handed in;
+    // no such editor accepts a ticket, so there is no success to tell.
     pub fn keep_at<B: Store>(&mut self, other: &mut Desk<B>) -> Option<Refusal>
         ensures told { result ≡ returned_with self.old.held other.old.signals other.old.held }
         ensures own { self.new ≡ self.old }
@@ -187,7 +188,7 @@ impl<S: Store> Desk<S> {
         closed(&mut self.held, other.editor.drop_batch(ticket)).err()
     }
 
-    // Exchanges the tickets at hand, if each desk has one, and says whether they do.
+    // Exchanges the tickets at hand, if each desk has one. As the `insert` of a set does, it says whether it did.
     pub fn swap<B: Store>(&mut self, other: &mut Desk<B>) -> bool
         ensures swaps { Swaps self.old other.old self.new other.new result }
     {

@@ -1,8 +1,12 @@
 -- What is told of a signal.
-use Rattle.std.specs.Prelude.{◌≡◌, ℕ, ◌+◌, ◌*◌, List, [], ◌∷◌, length, Some, None, Option, MatchOption}
+use Rattle.std.specs.Prelude.{◌≡◌, ℕ, ◌+◌, ◌*◌, ◌<◌, ◌≤◌, List, [], ◌∷◌, length, Some, None, Option, MatchOption}
 use Rattle.table.specs.declared.shape.Table.{Table}
 use Rattle.netlist.specs.Netlist.{Driver, absent, input, gate, latch}
 use Rattle.board.specs.Layout.{pin}
+
+-- Of a number below m something is told, of which P holds; of any other nothing.
+abbrev pub Tells : {A : Type 0} → ℕ → ℕ → (A → Type 0) → Option A → Type 0
+Tells m s P r = MatchOption r (m ≤ s) (λ x. (s < m) × P x)
 
 -- the words of the four pins of a signal
 abbrev pub pin_words_lem : ℕ → List ℕ → ℕ → List ℕ

@@ -1,4 +1,5 @@
-// Batches and marks over a store: a batch is its first open level, every further level is a mark.
+// Batches and marks over a store: a batch is its first open level, every further level is a mark. That the words are sound is a premise of
+// clauses, since each is safe on any words.
 ghost use Rattle.std.specs.Prelude.{◌≡◌, ℕ, ◌<◌, ◌≤◌, Decides, MatchOption, MatchResult};
 ghost use Rattle.words.specs.Meaning.{levels as levels_of};
 ghost use Rattle.netlist.specs.Refusals.{number};

@@ -130,6 +130,7 @@ impl<S: Store> Editor<S> {
 
     // ---- edits, each by its name, and any as a value
 
+    // The four that put no pin differ in one call on the board; a closure that changes it would need a contract as long as any of theirs.
     pub fn input(&mut self, signal: u32) -> Result<u32, Refusal>
         ensures { Edited self.old (Input signal) self.new result }
     {
@@ -162,6 +163,7 @@ impl<S: Store> Editor<S> {
         delete_signal(&mut self.board, signal)
     }
 
+    // The row of nets is copied whole, and the first so many count.
     pub fn gate(
         &mut self,
         signal: u32,

@@ -14,6 +14,7 @@ pub use board::Kind;
 pub use call::Call;
 pub use editor::Editor;
 pub use laws::{equal_words_reply_alike, worked_batches_hold};
+pub use making::words_for;
 pub use questions::Pins;
 pub use shown::Shown;
 pub use ticket::{Returned, Ticket};

@@ -10,13 +10,20 @@ ghost use Rattle.editor.specs.Making.{Fits, Seated};
 use board::{Field, StoredBoard};
 use words::Store;
 
+// How many words a store needs for so many signals.
+pub fn words_for(signals: u32) -> usize
+    ensures { result ≡ 24 * signals + 24 }
+{
+    24 * signals as usize + 24
+}
+
 pub(crate) fn fits<S: Store>(store: &S, signals: u32) -> bool
     ensures { Decides result (Fits signals (S.Store.model store.now)) }
 {
     if signals < 1 || signals > 1024 {
         return false;
     }
-    if store.size() < 24 * signals as usize + 24 {
+    if store.size() < words_for(signals) {
         return false;
     }
     store.limit() >= 2 && store.levels() == 0

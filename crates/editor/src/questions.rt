@@ -9,7 +9,7 @@ ghost use Rattle.board.specs.Layout.{value as value_word_of};
 ghost use Rattle.board.specs.Board.{netlist_of, nets as nets_of, order_of};
 ghost use Rattle.editor.specs.Calls.{Missing};
 ghost use Rattle.editor.specs.Log.{Entry, Led};
-ghost use Rattle.editor.specs.Questions.{pin_words_lem, TableOf, start_of};
+ghost use Rattle.editor.specs.Questions.{Tells, pin_words_lem, TableOf, start_of};
 
 use crate::batch::smallest_missing;
 use crate::editor::Editor;
@@ -52,20 +52,20 @@ impl<S: Store> Editor<S> {
 
     // Nothing is told of a signal that is not below M.
     pub fn kind(&self, signal: u32) -> Option<Kind>
-        ensures { MatchOption result (self.now.board.signals ≤ signal) (λ k. (signal < self.now.board.signals) × (k ≡ kind_of (driver_of (netlist_of self.now.board.signals self.now.board.words.image) signal))) }
+        ensures { Tells self.now.board.signals signal (λ k. (k ≡ kind_of (driver_of (netlist_of self.now.board.signals self.now.board.words.image) signal))) result }
     {
         (signal < self.signals()).then_some(self.board.kind(signal))
     }
 
     pub fn output_mark(&self, signal: u32) -> Option<bool>
-        ensures { MatchOption result (self.now.board.signals ≤ signal) (λ o. (signal < self.now.board.signals) × (o ≡ output_of (netlist_of self.now.board.signals self.now.board.words.image) signal)) }
+        ensures { Tells self.now.board.signals signal (λ o. (o ≡ output_of (netlist_of self.now.board.signals self.now.board.words.image) signal)) result }
     {
         (signal < self.signals()).then_some(self.board.is_output(signal))
     }
 
     // the signals that its pins are on
     pub fn pins(&self, signal: u32) -> Option<Pins>
-        ensures { MatchOption result (self.now.board.signals ≤ signal) (λ p. (signal < self.now.board.signals) × (p.items ≡ pins_of (driver_of (netlist_of self.now.board.signals self.now.board.words.image) signal))) }
+        ensures { Tells self.now.board.signals signal (λ p. (p.items ≡ pins_of (driver_of (netlist_of self.now.board.signals self.now.board.words.image) signal))) result }
     {
         (signal < self.signals()).then_some(pins_at(&self.board, signal))
     }
@@ -91,13 +91,13 @@ impl<S: Store> Editor<S> {
     }
 
     pub fn place(&self, signal: u32) -> Option<u32>
-        ensures { MatchOption result (self.now.board.signals ≤ signal) (λ p. (signal < self.now.board.signals) × ((log : List Entry) → Led self.now.board.signals log self.now.board.words → p ≡ place_of (order_of self.now.board.signals self.now.board.words.image) signal)) }
+        ensures { Tells self.now.board.signals signal (λ p. ((log : List Entry) → Led self.now.board.signals log self.now.board.words → p ≡ place_of (order_of self.now.board.signals self.now.board.words.image) signal)) result }
     {
         (signal < self.signals()).then_some(self.board.read(Field::Seat, signal))
     }
 
     pub fn signal_at(&self, place: u32) -> Option<u32>
-        ensures { MatchOption result (self.now.board.signals ≤ place) (λ s. (place < self.now.board.signals) × (s ≡ slice_index (order_of self.now.board.signals self.now.board.words.image) place)) }
+        ensures { Tells self.now.board.signals place (λ s. (s ≡ slice_index (order_of self.now.board.signals self.now.board.words.image) place)) result }
     {
         (place < self.signals()).then_some(self.board.read(Field::Holder, place))
     }

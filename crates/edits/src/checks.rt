@@ -1,4 +1,5 @@
-// The refusals of an edit that are seen before a pin is put, the smallest number first.
+// The refusals of an edit that are seen before a pin is put, the smallest number first. That the words are sound is a premise, since a check is
+// made on any words.
 ghost use Rattle.std.specs.Prelude.{◌≡◌, ℕ, ◌<◌, ◌≤◌, List, length, take, Decides, nat_le};
 ghost use Rattle.std.specs.List.{list_any};
 ghost use Rattle.words.specs.Meaning.{levels as levels_of};
@@ -61,7 +62,7 @@ fn beyond(signals: u32, edit: Edit) -> bool
     }
 }
 
-// One of the first so many nets is not below M.
+// One of the first so many nets is not below M. Rows of nets are copied whole.
 fn net_beyond(signals: u32, pins: u32, nets: [u32; 4]) -> bool
     ensures { Decides result (Beyond signals (take pins nets)) }
 {

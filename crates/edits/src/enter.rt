@@ -1,4 +1,5 @@
-// The change that an edit makes of the cell of its signal. Places stay as they are.
+// The change that an edit makes of the cell of its signal. Places stay as they are. Each takes the board and the number of the signal: a struct
+// of the two would lend the board once more, and know no more of it, since that the cell is there (`Site`) is a premise too.
 ghost use Rattle.std.specs.Prelude.{◌≡◌, ℕ, ◌+◌, ◌*◌, ◌<◌, ◌≤◌};
 ghost use Rattle.board.specs.Chain.{Chained, Repins};
 ghost use Rattle.board.specs.Kinds.{word_of};
@@ -47,10 +48,12 @@ pub(crate) fn enter_driver<S: Store>(
     attach_all(board, signal, pins, nets);
 }
 
+// The row is copied whole, and the first so many count.
 fn attach_all<S: Store>(board: &mut StoredBoard<S>, signal: u32, pins: u32, nets: [u32; 4])
     ensures attaches { Wirable board.old.signals board.old.words.image signal pins nets → Changed board.old.signals board.old.words.image signal (as_wired (cell_at board.old.signals board.old.words.image signal) pins nets) board.new.words.image }
     ensures only { OnlyWords board.old board.new }
 {
+    // a pin is named by its place in the row
     for (pin, net) in nets[..pins.min(4) as usize].iter().enumerate() {
         board.attach(pin_number(signal, pin as u32), *net);
     }

@@ -125,7 +125,7 @@ fn nets_to_put<S: Store>(board: &StoredBoard<S>, edit: Edit) -> ArrayVec<u32, 4>
     }
 }
 
-// The first so many of four.
+// The first so many of a row, which is copied whole.
 fn first_nets(count: u32, nets: [u32; 4]) -> ArrayVec<u32, 4>
     ensures { result.items ≡ take count nets }
 {

@@ -63,7 +63,8 @@ impl Memory {
         InverseLog::new(&mut self.words, size, limit)
     }
 
-    // A snapshot over the memory. It and `log` differ in whose `new` is called; the trait that both come from is private to the stores.
+    // A snapshot over the memory. It and `log` differ in whose `new` is called: one function for both would take a trait of makings that is
+    // longer than they are.
     pub fn snapshot(&mut self) -> Snapshot<'_>
         ensures* lends { sem 𝓛 (LendsWords self.entry result.words) }
         ensures gives { Gives self.old (⟦<Snapshot<'static> as Store>⟧.model result) result.words.now }
