@@ -39,7 +39,8 @@ fn run(rt: &HostRuntime) -> anyhow::Result<()> {
     let bottom = asked(rt)?;
     let mut lines = lines_of(rt.alloc(), BufReader::new(rt.alloc(), rt.stdin())?);
     let mut next = first_editor(rt, &mut lines)?;
-    // the input ends this, and none has so many lines
+    // counted, though only the end of the input ends it and none has so many lines: a `while let` would owe a measure, and none
+    // here follows how much of the input is left
     for _ in 0..u64::MAX {
         let Some(shape) = next else {
             break;

@@ -21,7 +21,8 @@ fn covers(plane: &[u8], minterm: u32) -> bool
     requires { length plane.now ≤ 4 }
     ensures { Decides result (Covers plane.now minterm) }
 {
-    // a pin is named by the place of its character
+    // docs/DECISIONS.md has this loop's form, over the bytes with their index and each byte as a `char`: a pin is named by its
+    // character's place, and a character that is none of the three covers nothing
     for (i, b) in plane.iter().enumerate() {
         let carried = (minterm >> i) % 2;
         let agrees = match *b as char {

@@ -1,37 +1,34 @@
 -- A comment is cut off a line, and a line off a text.
-use Rattle.std.proofs.Common.{◌≡◌, ℕ, suc, ◌+◌, ◌<◌, ◌≤◌, min, Bool, true, false, ◌||◌, eqb, List, [], ◌∷◌, ◌++◌, length, take, drop, Some, Ok, Err, Result, sym, refl, ap, ◌∙◌, subst, ⊎_elim, add-one, arith, length-drop}
+use Rattle.std.proofs.Common.{◌≡◌, ℕ, suc, ◌+◌, ◌<◌, ◌≤◌, min, Bool, eqb, List, [], ◌∷◌, ◌++◌, length, take, drop, Some, Ok, Err, Result, sym, refl, ap, ◌∙◌, subst, ⊎_elim, add-one, arith, length-drop}
 use Rattle.std.specs.List.{position_or_len}
 use Rattle.std.proofs.lemmas.Bool.{cond-true, cond-false, cases_Bool, cases_lt}
 use Rattle.std.proofs.lemmas.List.{drop-drop, drop_all, length-take-le}
 use Rattle.text.specs.declared.faults.ReadFault.{ReadFault}
 use Rattle.text.specs.declared.faults.ReadFault.TheVariants.{Text, Memory}
 use Rattle.text.specs.declared.faults.TextFault.{TextFault}
-use Rattle.text.specs.Rules.{Rules, marked}
+use Rattle.text.specs.Rules.{Rules}
 use Rattle.text.proofs.Marks.{mark_here, mark_later}
 use Rattle.text.specs.Words.{Part}
 use Rattle.text.specs.Lines.{shown, judged, Wordy, Ready, lines, begins, Item, holds, faulty, item, items, rest, first, Found, Gives}
 
-twice : (t : Bool) → (t || t) ≡ t
-twice true = refl
-twice false = refl
+abbrev same_byte : ℕ → ℕ → Bool
+same_byte mark b = eqb b mark
 
-pub shown_is : (bs : List ℕ) → take (position_or_len (marked 35 35) bs) bs ≡ shown bs
+pub shown_is : (bs : List ℕ) → take (position_or_len (same_byte 35) bs) bs ≡ shown bs
 shown_is [] = refl
 shown_is (b ∷ bs) =
     ⊎_elim
     (λ t.
-    let u = twice (eqb b 35) ∙ t in
-    ap (λ j. take j (b ∷ bs)) (mark_here (marked 35 35) b bs u) ∙ sym (cond-true (eqb b 35) [] (b ∷ shown bs) t))
+    ap (λ j. take j (b ∷ bs)) (mark_here (same_byte 35) b bs t) ∙ sym (cond-true (eqb b 35) [] (b ∷ shown bs) t))
     (λ t.
-    let u = twice (eqb b 35) ∙ t in
-    ap (λ j. take j (b ∷ bs)) (mark_later (marked 35 35) b bs u ∙ add-one _) ∙ ap (λ l. b ∷ l) (shown_is bs) ∙ sym (cond-false (eqb b 35) [] (b ∷ shown bs) t))
+    ap (λ j. take j (b ∷ bs)) (mark_later (same_byte 35) b bs t ∙ add-one _) ∙ ap (λ l. b ∷ l) (shown_is bs) ∙ sym (cond-false (eqb b 35) [] (b ∷ shown bs) t))
     (cases_Bool (eqb b 35))
 
 -- the first line and what follows it
 abbrev Cut : List ℕ → List (List ℕ)
-Cut bs = take (position_or_len (marked 10 10) bs) bs ∷ lines (drop (position_or_len (marked 10 10) bs + 1) bs)
+Cut bs = take (position_or_len (same_byte 10) bs) bs ∷ lines (drop (position_or_len (same_byte 10) bs + 1) bs)
 
-begins_more : (b : ℕ) (bs : List ℕ) → (0 < length bs → lines bs ≡ Cut bs) → begins b (lines bs) ≡ (b ∷ take (position_or_len (marked 10 10) bs) bs) ∷ lines (drop (position_or_len (marked 10 10) bs + 1) bs)
+begins_more : (b : ℕ) (bs : List ℕ) → (0 < length bs → lines bs ≡ Cut bs) → begins b (lines bs) ≡ (b ∷ take (position_or_len (same_byte 10) bs) bs) ∷ lines (drop (position_or_len (same_byte 10) bs + 1) bs)
 begins_more b [] h = refl
 begins_more b (c ∷ cs) h = ap (begins b) (h (omega arith))
 
@@ -40,21 +37,19 @@ lines_more [] h = absurd (omega arith)
 lines_more (b ∷ bs) h =
     ⊎_elim
     (λ t.
-    let u = twice (eqb b 10) ∙ t in
     cond-true (eqb b 10) _ _ t
-    ∙ ap (λ j. take j (b ∷ bs) ∷ lines (drop (j + 1) (b ∷ bs))) (sym (mark_here (marked 10 10) b bs u)))
+    ∙ ap (λ j. take j (b ∷ bs) ∷ lines (drop (j + 1) (b ∷ bs))) (sym (mark_here (same_byte 10) b bs t)))
     (λ t.
-    let u = twice (eqb b 10) ∙ t in
     cond-false (eqb b 10) _ _ t ∙ begins_more b bs (lines_more bs)
-    ∙ ap (λ j. (b ∷ take (position_or_len (marked 10 10) bs) bs) ∷ lines (drop j (b ∷ bs))) (ap suc (add-one _) ∙ sym (add-one _))
-    ∙ ap (λ j. take j (b ∷ bs) ∷ lines (drop (j + 1) (b ∷ bs))) (sym (add-one _) ∙ sym (mark_later (marked 10 10) b bs u)))
+    ∙ ap (λ j. (b ∷ take (position_or_len (same_byte 10) bs) bs) ∷ lines (drop j (b ∷ bs))) (ap suc (add-one _) ∙ sym (add-one _))
+    ∙ ap (λ j. take j (b ∷ bs) ∷ lines (drop (j + 1) (b ∷ bs))) (sym (add-one _) ∙ sym (mark_later (same_byte 10) b bs t)))
     (cases_Bool (eqb b 10))
 
 -- one line is read from `at`, and the next one begins at `next`
 pub record Step (text : List ℕ) (at m next : ℕ) (after raw : List ℕ) : Type 0 where
   pub is : after ≡ drop at text
   pub inside : at < length text
-  pub stops : m ≡ position_or_len (marked 10 10) after
+  pub stops : m ≡ position_or_len (same_byte 10) after
   pub within : m ≤ length after
   pub cut : raw ≡ take m after
   pub on : next ≡ at + min (m + 1) (length after)

@@ -5,7 +5,7 @@ use Rattle.std.proofs.ByRecursion.{all_kept_by}
 use Rattle.std.proofs.lemmas.List.{drop-drop, take_at, take_more, get_or-drop}
 use Rattle.std.proofs.lemmas.Bool.{cond_both, and_parts, and_from, not-true, not_from_false}
 use Rattle.text.specs.declared.faults.TextFault.TheVariants.{TooLong}
-use Rattle.text.specs.Rules.{Rules, separates, marked, allowed, word_byte}
+use Rattle.text.specs.Rules.{Rules, separates, allowed, word_byte}
 use Rattle.text.specs.Words.{Part, part, onto, parts, is_word_lem, words, fits}
 use Rattle.text.specs.Lines.{shown, first_wrong, verdict, judged, lines, begins, Item, faulty, item, items, rest}
 use Rattle.text.specs.Standing.{newlines, Stands, AllStand, WordsStand}
@@ -125,7 +125,7 @@ module _ (k : Rules) (text : List ℕ) (n : ℕ) where
 
   stand_line : (at : ℕ) (bs tail : List ℕ) (more : List Item) → drop at text ≡ bs ++ tail → Row text at n → Free bs → AllStand text more → AllStand text (item n (judged k n at bs) ++ more)
   stand_line at bs tail more e row f m =
-      let u = position_or_len (marked 35 35) bs in
+      let u = position_or_len (λ b. eqb b 35) bs in
       let split : bs ++ tail ≡ shown bs ++ (drop u bs ++ tail) =
       ap (λ l. l ++ tail) (sym (take-append-drop u bs)) ∙ append_assoc (take u bs) (drop u bs) tail ∙ ap (λ l. l ++ (drop u bs ++ tail)) (shown_is bs) in
       stand_judged (list_all (allowed k) (shown bs)) (list_all (λ p. fits p.bytes) (words k n at (shown bs))) (words k n at (shown bs)) more refl (words_placed at (shown bs) (drop u bs ++ tail) (e ∙ split) row (free_shown bs f)) (words_clean at (shown bs)) m

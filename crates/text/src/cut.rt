@@ -1,8 +1,8 @@
 // Where a line is cut: the words between its separators.
-ghost use Rattle.std.specs.Prelude.{◌≡◌, ◌+◌, ◌^◌, ◌<◌, ◌≤◌, length, slice_index};
+ghost use Rattle.std.specs.Prelude.{◌≡◌, ◌+◌, ◌^◌, ◌<◌, ◌≤◌, ◌==◌, length};
 ghost use Rattle.std.specs.Option.{option_map_or};
 ghost use Rattle.std.specs.List.{position_or_len};
-ghost use Rattle.text.specs.Rules.{marked, separates};
+ghost use Rattle.text.specs.Rules.{separates};
 ghost use Rattle.text.specs.Words.{is_word_lem, words_in, left_words};
 
 use crate::kinds::Text;
@@ -10,27 +10,28 @@ use crate::spot::{RawLine, Spot};
 use crate::words::Word;
 use std::marker::PhantomData;
 
-fn is_mark(b: u8, marks: [u8; 2]) -> bool
-    ensures { result ≡ marked (slice_index marks 0) (slice_index marks 1) b }
-{
-    let [first, second] = marks;
-    b == first || b == second
-}
-
 pub(crate) fn is_separator<T: Text>(b: u8) -> bool
     ensures { result ≡ separates T.Text.rules b }
 {
-    is_mark(b, T::SEPARATORS)
+    T::SEPARATORS.contains(&b)
 }
 
 // How many bytes stand before the first mark: all where there is none.
-pub(crate) fn length_before(bytes: &[u8], marks: [u8; 2]) -> usize
-    ensures value { result ≡ position_or_len (marked (slice_index marks 0) (slice_index marks 1)) bytes.now }
+pub(crate) fn length_before(bytes: &[u8], mark: u8) -> usize
+    ensures value { result ≡ position_or_len (λ b. b == mark) bytes.now }
+    ensures within { result ≤ length bytes.now }
+{
+    bytes.iter().position(|b| *b == mark).unwrap_or(bytes.len())
+}
+
+// How many bytes stand before the first separator: all where there is none.
+fn part_length<T: Text>(bytes: &[u8]) -> usize
+    ensures value { result ≡ position_or_len (separates T.Text.rules) bytes.now }
     ensures within { result ≤ length bytes.now }
 {
     bytes
         .iter()
-        .position(|b| is_mark(*b, marks))
+        .position(|b| is_separator::<T>(*b))
         .unwrap_or(bytes.len())
 }
 
@@ -75,7 +76,7 @@ impl<'a, T: Text> Iterator for Words<'a, T> {
 
     fn next(&mut self) -> Option<Word<'a>> {
         while let Some(rest) = self.rest {
-            let length = length_before(rest, T::SEPARATORS);
+            let length = part_length::<T>(rest);
             let word = Word {
                 bytes: &rest[..length],
                 place: self.at.place,

@@ -80,7 +80,7 @@ fn without_comment(line: RawLine) -> RawLine
     ensures at { (result.at.place ≡ line.entry.at.place) × (result.at.line ≡ line.entry.at.line) }
 {
     RawLine {
-        bytes: &line.bytes[..length_before(line.bytes, [COMMENT, COMMENT])],
+        bytes: &line.bytes[..length_before(line.bytes, COMMENT)],
         at: line.at,
     }
 }

@@ -80,10 +80,11 @@ impl<'a, T: Text> Reader<'a, T> {
         ensures limit { self.new.limit ≡ self.old.limit }
         ensures gives { Gives (rest T.Text.rules self.old.text.now self.old.at.place self.old.at.line) (rest T.Text.rules self.new.text.now self.new.at.place self.new.at.line) result }
     {
+        // by place: each word is told with its place, so the place is counted, and what is left of the text follows from it
         while self.at.place < self.text.len() {
             let start = self.at;
             let after = &self.text[start.place..];
-            let length = length_before(after, [NEWLINE, NEWLINE]);
+            let length = length_before(after, NEWLINE);
             let words = words_of::<T>(
                 heap,
                 RawLine {
