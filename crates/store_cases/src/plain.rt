@@ -4,24 +4,6 @@ use std::alloc::{AllocError, Global};
 use store_script::Command;
 use words::StoreRefusal;
 
-// Why a command was not carried out.
-enum Fault {
-    Refused(StoreRefusal),
-    NoMemory(AllocError),
-}
-
-impl From<StoreRefusal> for Fault {
-    fn from(refusal: StoreRefusal) -> Fault {
-        Fault::Refused(refusal)
-    }
-}
-
-impl From<AllocError> for Fault {
-    fn from(error: AllocError) -> Fault {
-        Fault::NoMemory(error)
-    }
-}
-
 #[derive(Drop)]
 pub struct Plain {
     limit: usize,
@@ -47,42 +29,40 @@ impl Plain {
         })
     }
 
-    // The reply to a command, if there is memory for what it saves.
+    // The reply to a command. To open a level alone takes memory, and so alone may find none.
     pub fn play(&mut self, command: Command) -> Result<Result<(), StoreRefusal>, AllocError> {
-        match self.carry_out(command) {
-            Ok(()) => Ok(Ok(())),
-            Err(Fault::Refused(refusal)) => Ok(Err(refusal)),
-            Err(Fault::NoMemory(error)) => Err(error),
+        match command {
+            Command::Open => self.open_level(),
+            Command::Set { at, word } => Ok(self.set(at, word)),
+            Command::Keep => Ok(self.newest().map(|_| ())),
+            Command::Drop => Ok(self.drop_level()),
+            Command::Show => Ok(Ok(())),
         }
     }
 
-    fn carry_out(&mut self, command: Command) -> Result<(), Fault> {
-        match command {
-            Command::Set { at, word } => {
-                *self
-                    .image
-                    .get_mut(at as usize)
-                    .ok_or(StoreRefusal::NoSuchWord)? = word;
-            }
-            Command::Open => self.open_level()?,
-            Command::Keep => {
-                let _ = self.newest()?;
-            }
-            Command::Drop => self.image = self.newest()?,
-            Command::Show => {}
-        }
+    fn set(&mut self, at: u32, word: u32) -> Result<(), StoreRefusal> {
+        *self
+            .image
+            .get_mut(at as usize)
+            .ok_or(StoreRefusal::NoSuchWord)? = word;
         Ok(())
     }
 
-    fn open_level(&mut self) -> Result<(), Fault> {
+    fn open_level(&mut self) -> Result<Result<(), StoreRefusal>, AllocError> {
         if self.saved.len() >= self.limit {
-            return Err(Fault::Refused(StoreRefusal::NoLevelLeft));
+            return Ok(Err(StoreRefusal::NoLevelLeft));
         }
         let copy = self.image.clone()?;
         self.saved.push(copy).map_err(AllocError::from)?;
+        Ok(Ok(()))
+    }
+
+    fn drop_level(&mut self) -> Result<(), StoreRefusal> {
+        self.image = self.newest()?;
         Ok(())
     }
 
+    // The image that the newest level saved, which is no longer kept.
     fn newest(&mut self) -> Result<Vec<u32>, StoreRefusal> {
         self.saved.pop().ok_or(StoreRefusal::NoLevelOpen)
     }

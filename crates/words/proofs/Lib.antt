@@ -1,5 +1,4 @@
 mod Blocks
-mod Copies
 mod Images
 mod Logs
 mod Noting

@@ -64,6 +64,8 @@ impl<'a> InverseLog<'a> {
 impl InverseLog<'_> {
     ghost use Rattle.words.specs.LogSteps.{IsOpen, HasNotedWord, Noted, Stays, meaning_of, meaning_below, undone};
 
+    // That a level is open is a clause here and below, and no type: a level is a number, and no type of it can follow the store as levels open
+    // and close.
     fn has_noted(&self, level: usize, at: usize) -> bool
         requires { IsOpen self.now level × (at < self.now.shape.size) }
         ensures { MatchBool result (HasNotedWord self.now level at) (HasNotedWord self.now level at → ⊥) }
@@ -228,6 +230,7 @@ impl Store for InverseLog<'_> {
         Ok(())
     }
 
+    // It and `drop_level` part in one call, `hand_down` or `take_back`: a function that is given either would have to state what both promise.
     fn keep_level(&mut self) -> Result<(), StoreRefusal> {
         if self.noted.is_empty() {
             return Err(StoreRefusal::NoLevelOpen);

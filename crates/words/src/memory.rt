@@ -1,5 +1,5 @@
 // What both stores do with the memory that they are lent.
-ghost use Rattle.std.specs.Prelude.{◌≡◌, ℕ, ◌<◌, ◌≤◌, List, length, MatchOption, OnOk, slice_index, slice_set};
+ghost use Rattle.std.specs.Prelude.{◌≡◌, ℕ, ◌<◌, ◌≤◌, List, length, MatchOption, OnOk, slice_index};
 ghost use Rattle.words.specs.Making.{Fits, Tests, Makes, laid, cleared};
 
 use crate::store::{Store, StoreRefusal};
@@ -10,7 +10,8 @@ pub const LEVELS_LEAST: usize = 2;
 
 pub const LEVELS_MOST: usize = 8;
 
-// A store that lies in memory which a host lends.
+// A store that lies in memory which a host lends. The memory, N and D stand side by side in each call, as a host names them (docs/STORES.md):
+// before `test` has looked at all three no type can say that they fit, and behind it they are used once.
 pub(crate) trait OverMemory<'a>: Store {
     // how many words of memory a store of so many levels takes for a word of its own
     ghost each: { ℕ → ℕ };
@@ -76,12 +77,4 @@ pub(crate) fn word_at(words: &[u32], size: usize, at: usize) -> Option<u32>
     ensures { MatchOption result (size ≤ at) (λ w. (at < size) × (w ≡ slice_index words.now at)) }
 {
     words[..size].get(at).copied()
-}
-
-// Writes one word. A function, since the part of a snapshot for a level is lent to it.
-pub(crate) fn put(words: &mut [u32], at: usize, word: u32)
-    requires { at < length words.old }
-    ensures { words.new ≡ slice_set words.old at word }
-{
-    words[at] = word;
 }
