@@ -2,7 +2,8 @@
 use editor::Call;
 use netlist::Refusal;
 
-// M and D of an editor, D in the type of a store's levels; in `console` it is a number that was read.
+// M and D of an editor. No call of a library takes both, a store being made for D and an editor for M, so that none has this type. D is of the type of
+// a store's levels; in `console`, which has such a type too, it is a number that was read.
 #[derive(Clone, Copy)]
 pub struct Shape {
     pub signals: u32,

@@ -20,7 +20,7 @@ const SIZE: usize = 24600;
 
 const LIMIT: usize = 2;
 
-// How a chain is entered.
+// How a chain is entered. It is told to the desks over both stores, which are of two types, where a closure could take one alone.
 #[derive(Clone, Copy)]
 enum Direction {
     Backward,

@@ -54,42 +54,46 @@ fn same_signals<S: Store>(editor: &Editor<S>, signals: &[Signal]) -> bool {
 }
 
 fn same_signal<S: Store>(editor: &Editor<S>, number: u32, signal: &Signal) -> bool {
-    editor.output_mark(number) == Some(signal.output) && same_driver(editor, number, &signal.driver)
+    told(editor, number).as_ref() == Some(signal)
 }
 
-fn same_driver<S: Store>(editor: &Editor<S>, number: u32, driver: &Driver) -> bool {
-    match driver {
-        Driver::Absent => is_kind(editor, number, Kind::Absent),
-        Driver::Input => is_kind(editor, number, Kind::Input),
-        Driver::Gate(gate) => {
-            is_kind(editor, number, Kind::Gate) && same_gate(editor, number, gate)
-        }
-        Driver::Latch(latch) => {
-            is_kind(editor, number, Kind::Latch) && same_latch(editor, number, *latch)
-        }
+// A signal as the model has it, of what the editor tells.
+fn told<S: Store>(editor: &Editor<S>, number: u32) -> Option<Signal> {
+    Some(Signal {
+        driver: told_driver(editor, number)?,
+        output: editor.output_mark(number)?,
+    })
+}
+
+fn told_driver<S: Store>(editor: &Editor<S>, number: u32) -> Option<Driver> {
+    match editor.kind(number)? {
+        Kind::Absent => Some(Driver::Absent),
+        Kind::Input => Some(Driver::Input),
+        Kind::Gate => told_gate(editor, number),
+        Kind::Latch => told_latch(editor, number),
+    }
+}
+
+fn told_gate<S: Store>(editor: &Editor<S>, number: u32) -> Option<Driver> {
+    let nets = editor.pins(number)?;
+    let table = editor.table(number)?;
+    let gate = Gate {
+        table: table.bits(),
+        nets,
+    };
+    (table.pins() == gate.nets.len() as u32).then_some(Driver::Gate(gate))
+}
+
+fn told_latch<S: Store>(editor: &Editor<S>, number: u32) -> Option<Driver> {
+    let start = editor.start(number)?;
+    match *editor.pins(number)?.as_slice() {
+        [net] => Some(Driver::Latch(Latch { net, start })),
+        _ => None,
     }
 }
 
 pub fn is_kind<S: Store>(editor: &Editor<S>, number: u32, kind: Kind) -> bool {
     editor.kind(number) == Some(kind)
-}
-
-fn same_gate<S: Store>(editor: &Editor<S>, number: u32, gate: &Gate) -> bool {
-    let pins = gate.nets.len() as u32;
-    editor
-        .table(number)
-        .is_some_and(|table| table.pins() == pins && table.bits() == gate.table)
-        && same_pins(editor, number, gate.nets.as_slice())
-}
-
-fn same_latch<S: Store>(editor: &Editor<S>, number: u32, latch: Latch) -> bool {
-    editor.start(number) == Some(latch.start) && same_pins(editor, number, &[latch.net])
-}
-
-fn same_pins<S: Store>(editor: &Editor<S>, number: u32, nets: &[u32]) -> bool {
-    editor
-        .pins(number)
-        .is_some_and(|pins| pins.as_slice() == nets)
 }
 
 fn same_loop<S: Store>(editor: &Editor<S>, looped: &Option<Board>) -> bool {

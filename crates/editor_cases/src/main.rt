@@ -29,7 +29,7 @@ use tables::{
     ABSENT, FOUR_PINS, MOST, NO_MARK, NONE, REFUSALS, SIX_MARKS, SMALLEST, TAKEN_BACK, WORKED,
 };
 use tickets::try_tickets;
-use trial::{Trial, try_model, try_on_both};
+use trial::{Case, Trial};
 
 const SEEDS: u32 = 24;
 
@@ -43,11 +43,14 @@ fn try_table(
     limit: usize,
     rows: &[Row],
 ) -> anyhow::Result<()> {
-    let heap = report.rt.alloc();
-    let shape = Shape { signals, limit };
-    let model = try_model(heap, shape, Table(rows))?.is_ok();
-    let named = try_on_both(heap, shape, Table(rows), Way::Named)?;
-    let any = try_on_both(heap, shape, Table(rows), Way::Any)?;
+    let case = Case {
+        heap: report.rt.alloc(),
+        shape: Shape { signals, limit },
+        plan: Table(rows),
+    };
+    let model = case.try_model()?.is_ok();
+    let named = case.try_on_both(Way::Named)?;
+    let any = case.try_on_both(Way::Any)?;
     let verdicts = Pair {
         log: named.log.verdict.and(any.log.verdict),
         snapshot: named.snapshot.verdict.and(any.snapshot.verdict),
@@ -77,14 +80,15 @@ fn try_edges(report: &mut Report) -> anyhow::Result<()> {
 
 // M from 1 to 24, D from 2 to 8.
 fn try_seed(report: &mut Report, seed: u32) -> anyhow::Result<()> {
-    let heap = report.rt.alloc();
-    let shape = Shape {
-        signals: seed,
-        limit: 2 + (seed % 7) as usize,
+    let signals = seed;
+    let limit = 2 + (seed % 7) as usize;
+    let case = Case {
+        heap: report.rt.alloc(),
+        shape: Shape { signals, limit },
+        plan: Random::new(seed, signals, CALLS),
     };
     let way = if seed % 2 == 0 { Way::Named } else { Way::Any };
-    let Shape { signals, limit } = shape;
-    let Pair { log, snapshot } = try_on_both(heap, shape, Random::new(seed, CALLS), way)?;
+    let Pair { log, snapshot } = case.try_on_both(way)?;
     let Trial { tally, verdict } = log;
     let verdicts = Pair {
         log: verdict,

@@ -2,7 +2,6 @@
 use crate::call::{Reply, Shape};
 use crate::fault::{Fault, ensure, settle};
 use crate::plain_board::{Board, Driver, Gate, Latch, SIGNALS_MOST, in_use, missing};
-use crate::plain_places::put;
 use editor::Call;
 use netlist::{Edit, Refusal};
 use std::alloc::{AllocError, Global};
@@ -35,12 +34,12 @@ impl Model {
         self.saved.len()
     }
 
-    pub fn play(&mut self, heap: Global, call: Call) -> Result<Reply, AllocError> {
-        settle(self.call(heap, call))
+    pub fn play(&mut self, call: Call) -> Result<Reply, AllocError> {
+        settle(self.call(call))
     }
 
     // Refused by the smallest number that applies.
-    fn call(&mut self, heap: Global, call: Call) -> Result<u32, Fault<Refusal>> {
+    fn call(&mut self, call: Call) -> Result<u32, Fault<Refusal>> {
         ensure(self.signals > 0, Refusal::NoEditor)?;
         match call {
             Call::Begin => self.begin()?,
@@ -49,7 +48,7 @@ impl Model {
             Call::DropMark => self.drop_mark()?,
             Call::Keep => self.keep()?,
             Call::Drop => self.drop_batch()?,
-            Call::Make(edit) => return self.make(heap, edit),
+            Call::Make(edit) => return self.make(edit),
         }
         Ok(0)
     }
@@ -117,12 +116,12 @@ impl Model {
         }
     }
 
-    fn make(&mut self, heap: Global, edit: Edit) -> Result<u32, Fault<Refusal>> {
+    fn make(&mut self, edit: Edit) -> Result<u32, Fault<Refusal>> {
         self.looped = None;
         self.needs_batch()?;
         self.admits(edit)?;
         let mut asked = self.board.clone()?;
-        match change(heap, &mut asked, edit) {
+        match asked.make(edit) {
             Ok(count) => {
                 self.board = asked;
                 Ok(count)
@@ -204,52 +203,43 @@ pub fn table_limit(pins: u32) -> u32 {
     }
 }
 
-// Makes an edit that nothing but a loop can refuse. Gives the count.
-fn change(heap: Global, board: &mut Board, edit: Edit) -> Result<u32, Fault<Refusal>> {
-    match edit {
-        Edit::Input { signal } => board.set_driver(signal, Driver::Input),
-        Edit::Output { signal, mark } => board.set_output(signal, mark == 1),
-        Edit::Delete { signal } => board.set_driver(signal, Driver::Absent),
-        Edit::Latch { signal, net, start } => {
-            board.set_driver(signal, Driver::Latch(Latch { net, start }))
+impl Board {
+    // Makes an edit that nothing but a loop can refuse. Gives the count.
+    fn make(&mut self, edit: Edit) -> Result<u32, Fault<Refusal>> {
+        match edit {
+            Edit::Input { signal } => self.set_driver(signal, Driver::Input),
+            Edit::Output { signal, mark } => self.set_output(signal, mark == 1),
+            Edit::Delete { signal } => self.set_driver(signal, Driver::Absent),
+            Edit::Latch { signal, net, start } => {
+                self.set_driver(signal, Driver::Latch(Latch { net, start }))
+            }
+            Edit::Gate {
+                signal,
+                pins,
+                nets,
+                table,
+            } => return self.add_gate(signal, Gate::new(pins, nets, table)),
+            Edit::Move { signal, pin, net } => return self.move_pin(signal, pin, net),
         }
-        Edit::Gate {
-            signal,
-            pins,
-            nets,
-            table,
-        } => return add_gate(heap, board, signal, Gate::new(pins, nets, table)),
-        Edit::Move { signal, pin, net } => return move_pin(heap, board, signal, pin, net),
+        Ok(0)
     }
-    Ok(0)
-}
 
-fn add_gate(
-    heap: Global,
-    board: &mut Board,
-    signal: u32,
-    gate: Gate,
-) -> Result<u32, Fault<Refusal>> {
-    let nets = gate.nets.clone()?;
-    board.set_driver(signal, Driver::Gate(gate));
-    let mut sum: u32 = 0;
-    for net in &nets {
-        sum = sum.saturating_add(put(heap, board, signal, *net)?);
+    fn add_gate(&mut self, signal: u32, gate: Gate) -> Result<u32, Fault<Refusal>> {
+        let nets = gate.nets.clone()?;
+        self.set_driver(signal, Driver::Gate(gate));
+        let mut sum: u32 = 0;
+        for net in &nets {
+            sum = sum.saturating_add(self.put(signal, *net)?);
+        }
+        Ok(sum)
     }
-    Ok(sum)
-}
 
-// The pin of a latch moves nothing.
-fn move_pin(
-    heap: Global,
-    board: &mut Board,
-    signal: u32,
-    pin: u32,
-    net: u32,
-) -> Result<u32, Fault<Refusal>> {
-    board.set_pin(signal, pin, net);
-    match board.driver(signal) {
-        Some(Driver::Gate(_)) => put(heap, board, signal, net),
-        _ => Ok(0),
+    // The pin of a latch moves nothing.
+    fn move_pin(&mut self, signal: u32, pin: u32, net: u32) -> Result<u32, Fault<Refusal>> {
+        self.set_pin(signal, pin, net);
+        match self.driver(signal) {
+            Some(Driver::Gate(_)) => self.put(signal, net),
+            _ => Ok(0),
+        }
     }
 }

@@ -6,7 +6,7 @@ use std::{iter, slice};
 // The most signals that an editor has.
 pub const SIGNALS_MOST: u32 = 1024;
 
-#[derive(Clone, Drop)]
+#[derive(Clone, PartialEq, Drop)]
 pub enum Driver {
     Absent,
     Input,
@@ -15,19 +15,19 @@ pub enum Driver {
 }
 
 // A gate has a pin on each of the nets.
-#[derive(Clone, Drop)]
+#[derive(Clone, PartialEq, Drop)]
 pub struct Gate {
     pub nets: ArrayVec<u32, 4>,
     pub table: u32,
 }
 
-#[derive(Clone, Copy)]
+#[derive(Clone, Copy, PartialEq)]
 pub struct Latch {
     pub net: u32,
     pub start: u32,
 }
 
-#[derive(Clone, Drop)]
+#[derive(Clone, PartialEq, Drop)]
 pub struct Signal {
     pub driver: Driver,
     pub output: bool,

@@ -3,7 +3,7 @@ ghost use Rattle.std.specs.Prelude.{ℕ, ◌<◌, IsSome, length};
 
 use crate::call::{Expected, Step};
 use crate::model::{Model, table_limit};
-use crate::plain_board::Driver;
+use crate::plain_board::{Board, Driver};
 use draws::Draws;
 use editor::Call;
 use netlist::Edit;
@@ -38,17 +38,19 @@ impl Plan for Table<'_> {
     }
 }
 
-// Calls that a seed fixes: mostly such as fit the netlist, now and then any numbers.
+// Calls that a seed fixes, for an editor of so many signals: mostly such as fit the netlist, now and then any numbers.
 #[derive(Clone, Copy)]
 pub struct Random {
     draws: Draws,
+    signals: u32,
     left: u32,
 }
 
 impl Random {
-    pub fn new(seed: u32, calls: u32) -> Random {
+    pub fn new(seed: u32, signals: u32, calls: u32) -> Random {
         Random {
             draws: Draws::new(u64::from(seed)),
+            signals,
             left: calls,
         }
     }
@@ -67,6 +69,15 @@ impl Random {
         }
     }
 
+    fn signal(&mut self) -> u32 {
+        self.below(self.signals)
+    }
+
+    // Mostly a signal, now and then a number that is none.
+    fn any_signal(&mut self) -> u32 {
+        self.around(self.signals)
+    }
+
     fn call(&mut self, model: &Model) -> Call {
         if model.levels() == 0 && self.below(8) > 0 {
             return Call::Begin;
@@ -78,58 +89,51 @@ impl Random {
             14..=17 => Call::DropMark,
             18..=22 => Call::Keep,
             23..=24 => Call::Drop,
-            _ => Call::Make(self.edit(model)),
+            _ => Call::Make(self.edit(&model.board)),
         }
     }
 
-    fn edit(&mut self, model: &Model) -> Edit {
+    fn edit(&mut self, board: &Board) -> Edit {
         if self.below(8) == 0 {
-            return self.any_edit(model.signals);
+            return self.any_edit();
         }
-        let signal = self.below(model.signals);
-        match model.board.driver(signal) {
-            None | Some(Driver::Absent) => self.driving(signal, model.signals),
+        let signal = self.signal();
+        match board.driver(signal) {
+            None | Some(Driver::Absent) => self.driving(signal),
             Some(Driver::Input) => self.undriving(signal),
-            Some(Driver::Latch(_)) => self.changing(signal, 1, model.signals),
-            Some(Driver::Gate(gate)) => {
-                self.changing(signal, gate.nets.len() as u32, model.signals)
-            }
+            Some(Driver::Latch(_)) => self.changing(signal, 1),
+            Some(Driver::Gate(gate)) => self.changing(signal, gate.nets.len() as u32),
         }
     }
 
     // Mostly moves a pin of a signal.
-    fn changing(&mut self, signal: u32, pins: u32, signals: u32) -> Edit {
+    fn changing(&mut self, signal: u32, pins: u32) -> Edit {
         if self.below(4) == 0 {
             self.undriving(signal)
         } else {
-            self.moving(signal, pins, signals)
+            self.moving(signal, pins)
         }
     }
 
     // Drives a signal.
-    fn driving(&mut self, signal: u32, signals: u32) -> Edit {
+    fn driving(&mut self, signal: u32) -> Edit {
         match self.below(4) {
             0 => Edit::Input { signal },
             1 => Edit::Latch {
                 signal,
-                net: self.below(signals),
+                net: self.signal(),
                 start: self.below(4),
             },
-            _ => self.gate(signal, signals),
+            _ => self.gate(signal),
         }
     }
 
-    fn gate(&mut self, signal: u32, signals: u32) -> Edit {
+    fn gate(&mut self, signal: u32) -> Edit {
         let pins = self.below(5);
         Edit::Gate {
             signal,
             pins,
-            nets: [
-                self.below(signals),
-                self.below(signals),
-                self.below(signals),
-                self.below(signals),
-            ],
+            nets: [self.signal(), self.signal(), self.signal(), self.signal()],
             table: self.below(table_limit(pins)),
         }
     }
@@ -143,27 +147,27 @@ impl Random {
         }
     }
 
-    fn moving(&mut self, signal: u32, pins: u32, signals: u32) -> Edit {
+    fn moving(&mut self, signal: u32, pins: u32) -> Edit {
         // no number is drawn for a gate without pins
         let pin = if pins == 0 { 0 } else { self.below(pins) };
         Edit::Move {
             signal,
             pin,
-            net: self.below(signals),
+            net: self.signal(),
         }
     }
 
     // Any edit with any numbers.
-    fn any_edit(&mut self, signals: u32) -> Edit {
-        let signal = self.around(signals);
-        let net = self.around(signals);
+    fn any_edit(&mut self) -> Edit {
+        let signal = self.any_signal();
+        let net = self.any_signal();
         match self.below(6) {
             0 => Edit::Input { signal },
             1 => Edit::Output {
                 signal,
                 mark: self.around(2),
             },
-            2 => self.any_gate(signal, net, signals),
+            2 => self.any_gate(signal, net),
             3 => Edit::Latch {
                 signal,
                 net,
@@ -178,9 +182,9 @@ impl Random {
         }
     }
 
-    fn any_gate(&mut self, signal: u32, net: u32, signals: u32) -> Edit {
+    fn any_gate(&mut self, signal: u32, net: u32) -> Edit {
         let pins = self.around(5);
-        let last = self.around(signals);
+        let last = self.any_signal();
         Edit::Gate {
             signal,
             pins,

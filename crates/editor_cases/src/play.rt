@@ -8,7 +8,8 @@ use desk::Desk;
 use editor::Call;
 use words::Store;
 
-// By which call an edit is made.
+// By which call an edit is made, at a desk over either store: a closure that makes it could take the desk of one alone. Which calls take flags hangs on
+// it too.
 #[derive(Clone, Copy)]
 pub enum Way {
     // that of its name

@@ -74,67 +74,60 @@ pub struct Trial {
     pub verdict: Verdict,
 }
 
-pub fn try_on_both<P: Plan + Copy>(
-    heap: Global,
-    shape: Shape,
-    plan: P,
-    way: Way,
-) -> Result<Pair<Trial>, AllocError> {
-    let size = 24 * shape.signals.min(2048) as usize + 24;
-    let mut memory = Memory::new(heap, size, shape.limit, 7)?;
-    Ok(Pair {
-        log: try_editor(heap, memory.log(), shape, plan, way)?,
-        snapshot: try_editor(heap, memory.snapshot(), shape, plan, way)?,
-    })
+// A plan, and the shape of the editors that it is tried on.
+#[derive(Clone, Copy)]
+pub struct Case<P> {
+    pub heap: Global,
+    pub shape: Shape,
+    pub plan: P,
 }
 
-// Makes an editor over a store, and plays a plan on it and on the model. A batch that is still open then is dropped.
-fn try_editor<S: Store + Drop, P: Plan + Drop>(
-    heap: Global,
-    store: S,
-    shape: Shape,
-    plan: P,
-    way: Way,
-) -> Result<Trial, AllocError> {
-    let mut desk = Desk::new(store, shape.signals);
-    let mut tally = Tally::new(heap);
-    let outcome = play_out(heap, shape, plan, |model, call, owed| {
-        tally.count(owed)?;
-        play(&mut desk, call, way, model, owed).map_err(Fault::Told)
-    });
-    let _ = desk.close();
-    Ok(Trial {
-        tally,
-        verdict: settle(outcome)?,
-    })
-}
-
-// Plays a plan on the model alone, which has to give the replies that are written down.
-pub fn try_model<P: Plan + Drop>(
-    heap: Global,
-    shape: Shape,
-    plan: P,
-) -> Result<Verdict, AllocError> {
-    settle(play_out(heap, shape, plan, |_, _, _| Ok(())))
-}
-
-// Plays a plan on the model, and hands on each call and what is owed for it, until there is a difference.
-fn play_out<P: Plan + Drop, F: FnMut(&Model, Call, Reply) -> Result<(), Fault<Finding>>>(
-    heap: Global,
-    shape: Shape,
-    plan: P,
-    mut follow: F,
-) -> Result<(), Fault<Finding>>
-    requires { F.IsAlwaysCallable follow }
-{
-    let mut plan = plan;
-    let mut model = Model::new(heap, shape)?;
-    while let Some(step) = plan.next_step(&model) {
-        let owed = model.play(heap, step.call)?;
-        check(step, owed).map_err(Fault::Told)?;
-        follow(&model, step.call, owed)?;
+impl<P: Plan + Copy> Case<P> {
+    pub fn try_on_both(self, way: Way) -> Result<Pair<Trial>, AllocError> {
+        let size = 24 * self.shape.signals.min(2048) as usize + 24;
+        let mut memory = Memory::new(self.heap, size, self.shape.limit, 7)?;
+        Ok(Pair {
+            log: self.try_editor(memory.log(), way)?,
+            snapshot: self.try_editor(memory.snapshot(), way)?,
+        })
     }
-    Ok(())
+
+    // Makes an editor over a store, and plays the plan on it and on the model. A batch that is still open then is dropped.
+    fn try_editor<S: Store + Drop>(self, store: S, way: Way) -> Result<Trial, AllocError> {
+        let mut desk = Desk::new(store, self.shape.signals);
+        let mut tally = Tally::new(self.heap);
+        let outcome = self.play_out(|model, call, owed| {
+            tally.count(owed)?;
+            play(&mut desk, call, way, model, owed).map_err(Fault::Told)
+        });
+        let _ = desk.close();
+        Ok(Trial {
+            tally,
+            verdict: settle(outcome)?,
+        })
+    }
+
+    // Plays the plan on the model alone, which has to give the replies that are written down.
+    pub fn try_model(self) -> Result<Verdict, AllocError> {
+        settle(self.play_out(|_, _, _| Ok(())))
+    }
+
+    // Plays the plan on the model, and hands on each call and what is owed for it, until there is a difference.
+    fn play_out<F: FnMut(&Model, Call, Reply) -> Result<(), Fault<Finding>>>(
+        self,
+        mut follow: F,
+    ) -> Result<(), Fault<Finding>>
+        requires { F.IsAlwaysCallable follow }
+    {
+        let mut plan = self.plan;
+        let mut model = Model::new(self.heap, self.shape)?;
+        while let Some(step) = plan.next_step(&model) {
+            let owed = model.play(step.call)?;
+            check(step, owed).map_err(Fault::Told)?;
+            follow(&model, step.call, owed)?;
+        }
+        Ok(())
+    }
 }
 
 // The model has to reply what is written down.
