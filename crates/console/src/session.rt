@@ -4,7 +4,7 @@ use crate::lines::Lines;
 use crate::reply::{print_bad, print_flags, print_reply};
 use crate::show::show;
 use desk::Desk;
-use editor::{Call, Editor};
+use editor::{Call, Editor, words_for};
 use netlist::Refusal;
 use std::io::BufRead;
 use words::{InverseLog, LEVELS_MOST, Snapshot, Store};
@@ -35,7 +35,7 @@ impl Shape {
         if self.signals > SIGNALS_MOST || self.limit as usize > LEVELS_MOST {
             return 0;
         }
-        24 * self.signals as usize + 24
+        words_for(self.signals)
     }
 }
 

@@ -6,7 +6,7 @@ use crate::model::Model;
 use crate::plan::Plan;
 use crate::play::{Way, play};
 use desk::Desk;
-use editor::Call;
+use editor::{Call, words_for};
 use memory::{Memory, Pair};
 use std::alloc::{AllocError, Global};
 use std::collections::BTreeMap;
@@ -84,7 +84,7 @@ pub struct Case<P> {
 
 impl<P: Plan + Copy> Case<P> {
     pub fn try_on_both(self, way: Way) -> Result<Pair<Trial>, AllocError> {
-        let size = 24 * self.shape.signals.min(2048) as usize + 24;
+        let size = words_for(self.shape.signals.min(2048));
         let mut memory = Memory::new(self.heap, size, self.shape.limit, 7)?;
         Ok(Pair {
             log: self.try_editor(memory.log(), way)?,
