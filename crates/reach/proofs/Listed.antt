@@ -1,12 +1,14 @@
 -- The trails of numbers that were found, one after the other.
 use Rattle.std.proofs.Common.{◌≡◌, ℕ, suc, ◌+◌, ◌<◌, ◌≤◌, Bool, true, false, cond, eqb, ltb, List, [], ◌∷◌, ◌++◌, length, get_or, take, drop, Option, Some, None, MatchOption, sym, refl, ap, ◌∙◌, subst, ⊎_elim, append_assoc, zero-add, arith}
 use Rattle.std.specs.Prelude.{not, position}
+use Rattle.std.specs.Option.{ForSome}
 use Rattle.std.specs.List.{position_or_len}
-use Rattle.std.proofs.lemmas.List.{get_or_past, get_or_append_left, get_or_push, length_push, length-take, get_or-append-add, take-append-drop, take_more}
+use Rattle.std.proofs.lemmas.List.{get_or_append_left, get_or_push, length_push, length-take, get_or-append-add, take-append-drop, take_more}
 use Rattle.std.proofs.lemmas.List.Sums.{fold_push, fold-append}
-use Rattle.std.proofs.lemmas.Bool.{cases_lt, lt-ltb, le-ltb, ltb-true, ltb-false, cond-true, cond-false}
+use Rattle.std.proofs.lemmas.Bool.{cases_lt, ltb-true, ltb-false}
 use Rattle.reach.specs.declared.queue.Found.{Found}
 use Rattle.reach.specs.Listed.{trails, told_by, with_trail, HeadOf}
+use Rattle.reach.specs.Told.{Earlier}
 use Rattle.reach.specs.Order.{trail_at, More}
 use Rattle.reach.proofs.Finds.{more_none, more_on}
 use Rattle.reach.proofs.Ways.{at_push, at_none}
@@ -32,10 +34,22 @@ length-trails_from : (before : List (List ℕ)) (found : List Found) → length 
 unfolding trails
 length-trails_from before [] = omega arith
 length-trails_from before (x ∷ xs) =
-    omega (arith, length-trails_from (with_trail before x) xs, length_push before (x.number ∷ get_or before x.teller []))
+    omega (arith, length-trails_from (with_trail before x) xs, length_push before (x.number ∷ told_by x.teller before))
 
 pub length-trails : (found : List Found) → length (trails [] found) ≡ length found
 length-trails found = omega (arith, length-trails_from [] found)
+
+-- one number more, told by an earlier one
+pub earlier_push : (found : List Found) (new : Found) → Earlier found → ForSome new.teller (λ teller. teller < length (trails [] found)) → Earlier (found ++ new ∷ [])
+earlier_push found new earlier told k d lt =
+    ⊎_elim
+    (λ (inside : k < length found).
+    subst (λ (f : Found). ForSome f.teller (λ teller. teller < k)) (sym (get_or_append_left found (new ∷ []) d k inside)) (earlier k d inside))
+    (λ (past : length found ≤ k).
+    let last : k ≡ length found = omega (arith, length_push found new) in
+    subst (λ (f : Found). ForSome f.teller (λ teller. teller < k)) (sym (get_or_push found new d k (sym last)))
+    (subst (λ n. ForSome new.teller (λ teller. teller < n)) (length-trails found ∙ sym last) told))
+    (cases_lt k (length found))
 
 -- What a place holds: a number, and behind it the trail that its teller had then.
 module _ (found : List Found) where
@@ -51,7 +65,7 @@ module _ (found : List Found) where
     one_more : trails [] (take (k + 1) found) ≡ with_trail (trails [] (take k found)) (get_or found k d)
     one_more = ap (trails []) (take_more found k d lt) ∙ trails-push (take k found) (get_or found k d)
 
-    trail_is : get_or (trails [] found) k [] ≡ (get_or found k d).number ∷ get_or (trails [] (take k found)) (get_or found k d).teller []
+    trail_is : get_or (trails [] found) k [] ≡ (get_or found k d).number ∷ told_by (get_or found k d).teller (trails [] (take k found))
     trail_is =
         ap (λ l. get_or l k []) (prefix (k + 1)).is
         ∙ get_or_append_left _ (prefix (k + 1)).more [] k (omega (arith, length-trails (take (k + 1) found), length-take (k + 1) found))
@@ -66,17 +80,14 @@ module _ (found : List Found) where
     pub head_at : HeadOf (get_or (trails [] found) k []) (get_or found k d).number
     head_at = record { behind = _; is = trail_is }
 
-    -- a teller counts where it stands at an earlier place
-    pub trail_told : (counted : Option ℕ) → counted ≡ cond (ltb (get_or found k d).teller k) (Some (get_or found k d).teller) None →
-        get_or (trails [] found) k [] ≡ (get_or found k d).number ∷ told_by counted (trails [] found)
-    trail_told counted is = trail_is ∙ ap (λ t. (get_or found k d).number ∷ t) (go (get_or found k d).teller is)
+    -- its teller stands at an earlier place, whose trail is there already
+    pub trail_told : ForSome (get_or found k d).teller (λ teller. teller < k) →
+        get_or (trails [] found) k [] ≡ (get_or found k d).number ∷ told_by (get_or found k d).teller (trails [] found)
+    trail_told earlier = trail_is ∙ ap (λ t. (get_or found k d).number ∷ t) (go (get_or found k d).teller earlier)
       where
-        go : (t : ℕ) → counted ≡ cond (ltb t k) (Some t) None → get_or (trails [] (take k found)) t [] ≡ told_by counted (trails [] found)
-        go t e =
-            ⊎_elim
-            (λ before. rw (e, cond-true (ltb t k) (Some t) None (lt-ltb t k before)) (same t before))
-            (λ later. rw (e, cond-false (ltb t k) (Some t) None (le-ltb t k later)) (get_or_past (trails [] (take k found)) t [] (omega (arith, earlier_long))))
-            (cases_lt t k)
+        go : (teller : Option ℕ) → ForSome teller (λ t. t < k) → told_by teller (trails [] (take k found)) ≡ told_by teller (trails [] found)
+        go None _ = refl
+        go (Some t) before = same t (before t refl)
 
 -- the first place of a number, behind trails that end elsewhere
 record Spot (y : ℕ) (all : List (List ℕ)) (past place len : ℕ) : Type 0 where
@@ -90,7 +101,7 @@ spot_from y before [] none = record { inside = λ lt. absurd (omega arith); outs
 spot_from y before (x ∷ xs) none = go (eqb x.number y) refl (spot_from y (with_trail before x) xs)
   where
     trail : List ℕ
-    trail = x.number ∷ get_or before x.teller []
+    trail = x.number ∷ told_by x.teller before
 
     all : List (List ℕ)
     all = trails (with_trail before x) xs
@@ -99,7 +110,7 @@ spot_from y before (x ∷ xs) none = go (eqb x.number y) refl (spot_from y (with
     rest = position_or_len (λ f. eqb f.number y) xs
 
     ends : (b : Bool) → eqb x.number y ≡ b → (more : List (List ℕ)) → trail_at y (before ++ trail ∷ more) ≡ cond b trail (trail_at y more)
-    ends b e more = at_push y x.number (get_or before x.teller []) before more none ∙ ap (λ b. cond b trail (trail_at y more)) e
+    ends b e more = at_push y x.number (told_by x.teller before) before more none ∙ ap (λ b. cond b trail (trail_at y more)) e
 
     grown : More (with_trail before x) all
     grown = trails_more (with_trail before x) xs
@@ -145,5 +156,10 @@ find_place y found = go (ltb (position_or_len (λ f. eqb f.number y) found) (len
 abbrev pub left : Option ℕ → ℕ
 left None = 0
 left (Some at) = at + 1
+
+-- a walk back comes to its end, since tellers stand at earlier places
+pub left_told : (teller : Option ℕ) (at : ℕ) → ForSome teller (λ t. t < at) → left teller ≤ at
+left_told None at _ = omega arith
+left_told (Some t) at before = omega (arith, before t refl)
 
 pub ruleset listing = (trails-none, trails-push, length-trails, head_at)

@@ -131,8 +131,8 @@ pub kept_clear : (sought : Option ℕ) (flags : List ℕ) (found : List (List �
 kept_clear sought flags found clear none = rw (clear, none) (record { stand = stand_clear 1024 refl; unmet = unmet_clear sought })
 
 -- The start is told by none.
-pub begun : (next : ℕ → List ℕ) (start : ℕ) (found heard : List (List ℕ)) → found ≡ [] → heard ≡ hear (get_or found 0 []) (start ∷ []) found → heard ≡ rounds next start 0
-begun next start found heard none is = is ∙ ap (λ f. hear (get_or f 0 []) (start ∷ []) f) none ∙ sym (rounds-begin next start)
+pub begun : (next : ℕ → List ℕ) (start : ℕ) (found heard : List (List ℕ)) → found ≡ [] → heard ≡ hear [] (start ∷ []) found → heard ≡ rounds next start 0
+begun next start found heard none is = is ∙ ap (hear [] (start ∷ [])) none ∙ sym (rounds-begin next start)
 
 -- The number looked for is met while the start is told, or while others are.
 pub arrived : (next : ℕ → List ℕ) (start : ℕ) (sought : Option ℕ) (flags : List ℕ) (found : List (List ℕ)) → Stand flags found → Met sought found →

@@ -4,3 +4,4 @@ pub mod Flags
 pub mod Listed
 pub mod Steps
 pub mod Answer
+pub mod Told

@@ -9,9 +9,9 @@ abbrev pub told_by : Option ℕ → List (List ℕ) → List ℕ
 told_by None found = []
 told_by (Some place) found = slice_index_or found place []
 
--- The trails, and behind them that of one number more. One that no earlier place told has nothing behind it.
+-- The trails, and behind them that of one number more.
 abbrev pub with_trail : List (List ℕ) → Found → List (List ℕ)
-with_trail found new = found ++ (new.number ∷ slice_index_or found new.teller []) ∷ []
+with_trail found new = found ++ (new.number ∷ told_by new.teller found) ∷ []
 
 -- The trails of numbers found, behind those of others.
 unfoldable pub trails : List (List ℕ) → List Found → List (List ℕ)

@@ -1,27 +1,30 @@
 // The numbers that a search has found, in the order in which it found them.
 #![tactic(auto, using(crate::proofs::Listed::listing))]
 
-ghost use Rattle.std.specs.Prelude.{◌≡◌, ◌<◌, ◌≤◌, ◌==◌, [], ◌∷◌, length, reverse, position, IfSome, MatchOption, slice_index_or};
-ghost use Rattle.reach.specs.Listed.{listed, along, told_by, with_trail, HeadOf};
-ghost use Rattle.reach.specs.Answer.{PathTo};
+ghost use Rattle.std.specs.Prelude.{◌≡◌, ◌<◌, ◌≤◌, ◌==◌, [], ◌∷◌, length, reverse, position, MatchOption, slice_index_or};
+ghost use Rattle.std.specs.Option.{ForSome};
+ghost use Rattle.reach.specs.Told.{Earlier};
 
 use crate::path::Path;
 use arrayvec::ArrayVec;
 
-// A number, and the place of the one that told it: an earlier place, but for the start.
-// The start names its own place: an `Option` makes the table half as large again, and a search a third slower.
+// A number, and the place of the one that told it: an earlier place. The start was told by none.
 #[derive(Clone, Copy, Default)]
 pub(crate) struct Found {
     pub(crate) number: u32,
-    pub(crate) teller: usize,
+    pub(crate) teller: Option<u32>,
 }
 
 #[derive(Drop)]
 pub struct Queue {
     found: ArrayVec<Found, 1024>,
+    ghost earlier: { Earlier found.items },
 }
 
 impl Queue {
+    ghost use Rattle.reach.specs.Listed.{listed, along, with_trail, HeadOf};
+    ghost use Rattle.reach.specs.Answer.{PathTo};
+
     pub(crate) fn new() -> Self
         ensures { listed result ≡ [] }
     {
@@ -50,7 +53,8 @@ impl Queue {
     }
 
     pub(crate) fn push(&mut self, found: Found)
-        requires { length (listed self.old) < 1024 }
+        requires room { length (listed self.old) < 1024 }
+        requires told { ForSome found.teller (λ teller. teller < length (listed self.old)) }
         ensures { listed self.new ≡ with_trail (listed self.old) found }
     {
         self.found.push(found);
@@ -63,27 +67,17 @@ impl Queue {
         self.found.iter().position(|found| found.number == number)
     }
 
-    // The number at a place, and the place of the one that told it, if any did.
-    fn told_at(&self, place: usize) -> (u32, Option<usize>)
-        requires { place < length (listed self.now) }
-        ensures trail { slice_index_or (listed self.now) place [] ≡ result.0 ∷ told_by result.1 (listed self.now) }
-        ensures earlier { IfSome result.1 (λ teller. teller < place) }
-        ensures few { length (listed self.now) ≤ 1024 }
-    {
-        let Found { number, teller } = self.found[place];
-        (number, (teller < place).then_some(teller))
-    }
-
     // The path to the number at a place, walked back from teller to teller.
     pub(crate) fn path(&self, place: usize) -> Path
         requires { place < length (listed self.now) }
         ensures { along result ≡ reverse (slice_index_or (listed self.now) place []) }
     {
+        let found: &[Found] = &self.found;
         let mut numbers = ArrayVec::new();
-        let mut next = Some(place);
+        let mut next = Some(place as u32);
         // a loop, since an iterator over the numbers says which come, and not that there is room for all of them
         while let Some(at) = next {
-            let (number, teller) = self.told_at(at);
+            let Found { number, teller } = found[at as usize];
             numbers.push(number);
             next = teller;
         }

@@ -1,7 +1,8 @@
 // The search, and the guard over the flags that it borrows.
 ghost use Rattle.std.specs.Prelude.{◌≡◌, ℕ, ◌+◌, ◌<◌, List, [], ◌∷◌, length, replicate, MatchBool, MatchResult, ◌≢◌, slice_index, slice_index_or};
+ghost use Rattle.std.specs.Option.{ForSome};
 ghost use Rattle.reach.specs.Order.{hear};
-ghost use Rattle.reach.specs.Listed.{listed};
+ghost use Rattle.reach.specs.Listed.{listed, told_by};
 ghost use Rattle.reach.specs.Steps.{Stand, Unmet, Met, Kept, Round, Telling, Arrived};
 ghost use Rattle.reach.specs.Reach.{Reach};
 ghost use Rattle.reach.specs.Answer.{Answers, Whole, Searched, PathTo, Determined};
@@ -104,11 +105,12 @@ impl<'a> Search<'a> {
         self.queue.clear();
     }
 
-    // A number is told by the one at the place `teller`, the start by none: one that is new is flagged and listed.
-    fn note(&mut self, sought: Option<u32>, teller: usize, number: u32) -> Result<(), Sought>
-        requires { Kept sought self.old.flags.now (listed self.old.queue) }
+    // A number is told by the one at a place, or by none: one that is new is flagged and listed.
+    fn note(&mut self, sought: Option<u32>, teller: Option<u32>, number: u32) -> Result<(), Sought>
+        requires kept { Kept sought self.old.flags.now (listed self.old.queue) }
+        requires told { ForSome teller (λ place. place < length (listed self.old.queue)) }
         ensures lent { self.new.flags.ghost_name ≡ self.old.flags.ghost_name }
-        ensures heard { listed self.new.queue ≡ hear (slice_index_or (listed self.old.queue) teller []) (number ∷ []) (listed self.old.queue) }
+        ensures heard { listed self.new.queue ≡ hear (told_by teller (listed self.old.queue)) (number ∷ []) (listed self.old.queue) }
         ensures stand { Stand self.new.flags.now (listed self.new.queue) }
         ensures sought { MatchResult result (λ _. Unmet sought (listed self.new.queue)) (λ _. Met sought (listed self.new.queue)) }
     {
@@ -141,7 +143,7 @@ impl<'a> Search<'a> {
             (λ _. Arrived next query.now.start query.now.sought found) }
     {
         for neighbour in Neighbours::of(query.relation, number) {
-            self.note(query.sought, place, neighbour)?;
+            self.note(query.sought, Some(place as u32), neighbour)?;
         }
         Ok(())
     }
@@ -156,7 +158,7 @@ impl<'a> Search<'a> {
             (λ _. Arrived next query.now.start query.now.sought found) }
     {
         self.clear();
-        self.note(query.sought, 0, query.start)?;
+        self.note(query.sought, None, query.start)?;
         // the list grows while it is walked, so its places are counted
         for place in 0..LIMIT {
             let Some(number) = self.queue.number(place) else {

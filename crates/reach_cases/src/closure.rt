@@ -13,6 +13,7 @@ fn leading_out(shape: Shape, marks: &[bool; 1024]) -> Option<u32> {
 pub fn closure(shape: Shape, start: u32) -> [bool; 1024] {
     let mut marks = [false; 1024];
     let mut next = Some(start);
+    // each round adds a number, so that there are no more rounds than numbers
     for _ in 0..SIZE {
         let Some(mark) = next.and_then(|number| marks.get_mut(number as usize)) else {
             break;

@@ -5,7 +5,7 @@ use std::alloc::{AllocError, Global};
 
 pub const SIZE: u32 = 1024;
 
-// For each number its chain. It is kept in links and not in lists, since an edge of a relation is one number.
+// For each number its chain. It is kept in links and not in lists, so that the cases walk chains as a board's pins do, with an end that is a number.
 #[derive(Drop)]
 pub struct Graph {
     chains: [Chain; 1024],

@@ -5,7 +5,7 @@ ghost use Rattle.reach_cases.specs.Chain.{rest_of, first_of};
 use crate::link::{Chain, Link};
 use reach::{Neighbour, Relation};
 
-// No link. An edge is one number, so this is one too.
+// No link. A number like the links themselves, as the end of a board's chains of pins is.
 pub const END: u32 = u32::MAX;
 
 #[derive(Clone, Copy)]

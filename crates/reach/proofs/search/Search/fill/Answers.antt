@@ -7,8 +7,8 @@ use Rattle.reach.proofs.Standing.{kept_clear, begun, telling_begins, arrived}
 use Rattle.reach.proofs.Answered.{whole}
 use Rattle.reach.proofs.search.Search.fill.Goals as goal
 
-pub note-requires : goal.note-requires
-note-requires g c = kept_clear c.args.query.now.sought _ _ c.clear.ensures.clear c.clear.ensures.empty
+pub note-requires-clause-kept : goal.note-requires-clause-kept
+note-requires-clause-kept g c = kept_clear c.args.query.now.sought _ _ c.clear.ensures.clear c.clear.ensures.empty
 
 pub returns-in_err-note-clause-outcome : goal.returns-in_err-note-clause-outcome
 returns-in_err-note-clause-outcome g c =
