@@ -1,4 +1,5 @@
 mod Blocks
+mod Copies
 mod Images
 mod Logs
 mod Noting

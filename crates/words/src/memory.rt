@@ -1,5 +1,5 @@
 // What both stores do with the memory that they are lent.
-ghost use Rattle.std.specs.Prelude.{◌≡◌, ℕ, ◌<◌, ◌≤◌, List, length, MatchOption, OnOk, slice_index};
+ghost use Rattle.std.specs.Prelude.{◌≡◌, ℕ, ◌<◌, ◌≤◌, List, length, MatchOption, OnOk, slice_index, slice_set};
 ghost use Rattle.words.specs.Making.{Fits, Tests, Makes, laid, cleared};
 
 use crate::store::{Store, StoreRefusal};
@@ -77,4 +77,12 @@ pub(crate) fn word_at(words: &[u32], size: usize, at: usize) -> Option<u32>
     ensures { MatchOption result (size ≤ at) (λ w. (at < size) × (w ≡ slice_index words.now at)) }
 {
     words[..size].get(at).copied()
+}
+
+// Writes one word. A function, since the part of a snapshot for a level is lent to it.
+pub(crate) fn put(words: &mut [u32], at: usize, word: u32)
+    requires { at < length words.old }
+    ensures { words.new ≡ slice_set words.old at word }
+{
+    words[at] = word;
 }

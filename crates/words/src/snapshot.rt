@@ -1,6 +1,6 @@
 // The store that copies the whole image for each level. Its memory is cut into parts of N words: the present image, and one for each level.
 // It has no invariant, since it lends its memory on: sizes are held below what the memory has room for wherever they are used.
-ghost use Rattle.std.specs.Prelude.{◌≡◌, ◌+◌, ◌*◌, ◌<◌, ◌≤◌, min, length, drop};
+ghost use Rattle.std.specs.Prelude.{◌≡◌, ◌+◌, ◌*◌, ◌<◌, ◌≤◌, min, ◌⊎◌, length, drop};
 ghost use Rattle.std.proofs.Math.Seq.{paste};
 ghost use Rattle.words.specs.Making.{Tests, Makes};
 ghost use Rattle.words.specs.Snapshot.{width, snapshot_meaning, snapshot_lent};
@@ -49,12 +49,26 @@ impl<'a> Snapshot<'a> {
     }
 }
 
+// Copies `size` words from one part of the memory to another, in the form that docs/STORES.md has for it: the memory is handed on whole, and the
+// part for the level is lent on, for each word that is written there.
+fn copy_part(words: &mut [u32], size: usize, from: usize, to: usize)
+    requires source { from + size ≤ length words.old }
+    requires target { to + size ≤ length words.old }
+    requires apart { (from + size ≤ to) ⊎ (to + size ≤ from) }
+    ensures { words.new ≡ paste words.old to (drop from words.old) size }
+{
+    for i in 0..size {
+        let word = words[from + i];
+        memory::put(&mut words[to..to + size], i, word);
+    }
+}
+
 // Writes the present image into the part for a level.
 fn save(words: &mut [u32], size: usize, level: u8)
     requires { (level + 2) * size ≤ length words.old }
     ensures { words.new ≡ paste words.old ((level + 1) * size) words.old size }
 {
-    words.copy_within(..size, (usize::from(level) + 1) * size);
+    copy_part(words, size, 0, (usize::from(level) + 1) * size);
 }
 
 // Makes the image in the part for a level the present one.
@@ -62,8 +76,7 @@ fn restore(words: &mut [u32], size: usize, level: u8)
     requires { (level + 2) * size ≤ length words.old }
     ensures { words.new ≡ paste words.old 0 (drop ((level + 1) * size) words.old) size }
 {
-    let from = (usize::from(level) + 1) * size;
-    words.copy_within(from..from + size, 0);
+    copy_part(words, size, (usize::from(level) + 1) * size, 0);
 }
 
 impl<'a> OverMemory<'a> for Snapshot<'a> {
@@ -114,7 +127,7 @@ impl Store for Snapshot<'_> {
         if at >= self.part_size() {
             return Err(StoreRefusal::NoSuchWord);
         }
-        self.words[at] = word;
+        memory::put(self.words, at, word);
         Ok(())
     }
 
