@@ -18,7 +18,10 @@ impl Report<'_> {
     ) -> anyhow::Result<()> {
         self.difference(verdicts.log)?;
         self.difference(verdicts.snapshot)?;
-        let well = verdicts.map(|verdict| verdict.is_ok());
+        let well = Pair {
+            log: verdicts.log.is_ok(),
+            snapshot: verdicts.snapshot.is_ok(),
+        };
         println!(self.rt; "{head} {well}")?;
         let differing = u32::from(!well.both());
         self.differing = self.differing.saturating_add(differing);

@@ -9,21 +9,6 @@ pub struct Pair<T> {
     pub snapshot: T,
 }
 
-impl<T> Pair<T> {
-    // What a function makes of each.
-    pub fn map<U, F: Fn(T) -> U>(self, f: F) -> Pair<U>
-        requires { F.pre f self.log × F.pre f self.snapshot }
-        ensures log { F.post f self.log result.log }
-        ensures snapshot { F.post f self.snapshot result.snapshot }
-    {
-        let log = f(self.log);
-        Pair {
-            log,
-            snapshot: f(self.snapshot),
-        }
-    }
-}
-
 impl Pair<bool> {
     pub fn both(self) -> bool
         ensures { Decides result ((self.log ≡ true) × (self.snapshot ≡ true)) }

@@ -80,6 +80,16 @@ fn percent(time: u128, of: u128) -> u128 {
     time.saturating_mul(100) / of.max(1)
 }
 
+// One of the times over each store.
+fn chosen<F: Fn(Times) -> u128>(times: Pair<Times>, time: &F) -> Pair<u128>
+    requires { F.IsAlwaysCallable time.now }
+{
+    Pair {
+        log: time(times.log),
+        snapshot: time(times.snapshot),
+    }
+}
+
 // One of the times of each size, and its ratio to that of the smallest store.
 fn show<F: Fn(Times) -> u128>(
     rt: &HostRuntime,
@@ -90,9 +100,9 @@ fn show<F: Fn(Times) -> u128>(
     requires { F.IsAlwaysCallable time }
 {
     let [first, ..] = rows;
-    let least = first.times.map(&time);
+    let least = chosen(first.times, &time);
     for Row { size, times } in rows {
-        let Pair { log, snapshot } = times.map(&time);
+        let Pair { log, snapshot } = chosen(times, &time);
         let log_ratio = percent(log, least.log);
         let snapshot_ratio = percent(snapshot, least.snapshot);
         eprintln!(rt;

@@ -55,6 +55,14 @@ fn tried(heap: Global, case: Case) -> Result<Pair<Trial>, AllocError> {
     })
 }
 
+// Whether a case went well over each store.
+fn goodness(trials: Pair<Trial>) -> Pair<bool> {
+    Pair {
+        log: trials.log.good,
+        snapshot: trials.snapshot.good,
+    }
+}
+
 // Where the cases are printed, and in how many of them a store differs from the list of images.
 #[derive(Drop)]
 struct Report<'a> {
@@ -71,7 +79,7 @@ impl Report<'_> {
             ..
         } = case;
         let trials = tried(self.rt.alloc(), case)?;
-        let good = trials.map(|trial| trial.good);
+        let good = goodness(trials);
         let deepest = trials.log.deepest.min(trials.snapshot.deepest);
         println!(self.rt;
             "{name}: N {size}, D {limit}, {steps} commands, up to {deepest} levels: {good}"
@@ -92,7 +100,7 @@ impl Report<'_> {
                 steps: 90,
             };
             let trials = tried(self.rt.alloc(), case)?;
-            good = good.saturating_add(u32::from(trials.map(|trial| trial.good).both()));
+            good = good.saturating_add(u32::from(goodness(trials).both()));
             full = full.saturating_add(u32::from(trials.log.deepest == case.limit));
         }
         println!(self.rt;
