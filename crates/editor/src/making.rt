@@ -29,7 +29,8 @@ pub(crate) fn fits<S: Store>(store: &S, signals: u32) -> bool
     store.limit() >= 2 && store.levels() == 0
 }
 
-// Writes the empty netlist: each signal is absent, no pin is on any, and signal n stands at place n.
+// Writes the empty netlist: each signal is absent, no pin is on any, and signal n stands at place n. That M is at most 1,024 and the words
+// suffice are premises: words are written at any M, as far as there are any.
 pub(crate) fn lay_empty<S: Store>(board: &mut StoredBoard<S>)
     ensures lays { board.old.signals ≤ 1024 → 24 * board.old.signals + 24 ≤ size_of board.old.words → Stands board.old.signals board.new.words.image × (board_of board.old.signals board.new.words.image ≡ empty_board board.old.signals) }
     ensures only { OnlyWords board.old board.new }

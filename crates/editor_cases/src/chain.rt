@@ -5,7 +5,7 @@ use crate::difference::Difference;
 use crate::fault::ensure;
 use crate::report::Report;
 use desk::Desk;
-use editor::{Editor, Kind};
+use editor::{Editor, Kind, words_for};
 use memory::{Memory, Pair};
 use netlist::{Edit, Refusal};
 use std::alloc::{AllocError, Global};
@@ -15,8 +15,6 @@ use words::Store;
 const SIGNALS: u32 = 1024;
 
 const LAST: u32 = 1023;
-
-const SIZE: usize = 24600;
 
 const LIMIT: usize = 2;
 
@@ -102,7 +100,7 @@ fn try_on_both(
     heap: Global,
     direction: Direction,
 ) -> Result<Pair<Result<(), Difference>>, AllocError> {
-    let mut memory = Memory::new(heap, SIZE, LIMIT, 7)?;
+    let mut memory = Memory::new(heap, words_for(SIGNALS), LIMIT, 7)?;
     Ok(Pair {
         log: try_on(memory.log(), direction),
         snapshot: try_on(memory.snapshot(), direction),

@@ -3,13 +3,12 @@ use crate::difference::Difference;
 use crate::fault::ensure;
 use crate::report::Report;
 use desk::Desk;
+use editor::words_for;
 use memory::{Memory, Pair};
 use netlist::Refusal;
 use words::Store;
 
 const SIGNALS: u32 = 3;
-
-const SIZE: usize = 96;
 
 const LIMIT: usize = 3;
 
@@ -63,9 +62,9 @@ fn try_on<S: Store + Drop>(first: S, second: S, none: S) -> Result<(), Differenc
 
 pub fn try_tickets(report: &mut Report) -> anyhow::Result<()> {
     let heap = report.rt.alloc();
-    let mut first = Memory::new(heap, SIZE, LIMIT, 7)?;
-    let mut second = Memory::new(heap, SIZE, LIMIT, 7)?;
-    let mut none = Memory::new(heap, SIZE, LIMIT, 7)?;
+    let mut first = Memory::new(heap, words_for(SIGNALS), LIMIT, 7)?;
+    let mut second = Memory::new(heap, words_for(SIGNALS), LIMIT, 7)?;
+    let mut none = Memory::new(heap, words_for(SIGNALS), LIMIT, 7)?;
     let verdicts = Pair {
         log: try_on(first.log(), second.log(), none.log()),
         snapshot: try_on(first.snapshot(), second.snapshot(), none.snapshot()),

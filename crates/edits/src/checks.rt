@@ -1,5 +1,5 @@
-// The refusals of an edit that are seen before a pin is put, the smallest number first. That the words are sound is a premise, since a check is
-// made on any words.
+// The refusals of an edit that are seen before a pin is put, the smallest number first. That the words are sound and M is
+// at most 1,024 are premises, since a check is made on any words of any board.
 ghost use Rattle.std.specs.Prelude.{◌≡◌, ℕ, ◌<◌, ◌≤◌, List, length, take, Decides, nat_le};
 ghost use Rattle.std.specs.List.{list_any};
 ghost use Rattle.words.specs.Meaning.{levels as levels_of};

@@ -20,7 +20,7 @@ use reach::{Path, clear};
 use words::Store;
 
 // Replies with the sum of the counts of its puts. The calls of edits ask nothing and are safe on any words; what they promise is for boards in
-// order with a level left (`Workable`), so that is a premise of clauses and no invariant.
+// order, of at most 1,024 signals, with a level left (`Workable`), so that is a premise of clauses and no invariant.
 pub fn make_edit<S: Store>(
     board: &mut StoredBoard<S>,
     edit: Edit,

@@ -44,7 +44,7 @@ pub enum ReadFault {
 }
 
 impl ReadFault {
-    /// The number of the refusal: a host and a report are told it by number.
+    /// The number of the refusal that it holds: a host and a report are told it by number.
     pub fn number(self) -> u32
         ensures { result ≡ read_number_lem self }
     {

@@ -39,7 +39,7 @@ impl fmt::Display for TextFault {
 
 impl Error for TextFault {}
 
-// A fault of a text with the number of its line; line 0 where it was found before any line.
+// A fault of a text with the number of its line; line 0 where it was found before any line, as a report tells it.
 #[derive(Clone, Copy, PartialEq, Eq, Debug)]
 pub struct LineFault {
     pub fault: TextFault,

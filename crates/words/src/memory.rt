@@ -11,7 +11,7 @@ pub const LEVELS_LEAST: usize = 2;
 pub const LEVELS_MOST: usize = 8;
 
 // A store that lies in memory which a host lends. The memory, N and D stand side by side in each call, as a host names them (docs/STORES.md):
-// before `test` has looked at all three no type can say that they fit, and behind it they are used once.
+// before `test` has looked at all three no type can say that they fit, and behind it they are a store's.
 pub(crate) trait OverMemory<'a>: Store {
     // how many words of memory a store of so many levels takes for a word of its own
     ghost each: { ℕ → ℕ };

@@ -50,7 +50,7 @@ impl<'a> Snapshot<'a> {
 }
 
 // Copies `size` words from one part of the memory to another, in the form that docs/STORES.md has for it: the memory is handed on whole, and the
-// part for the level is lent on, for each word that is written there.
+// part that is written is lent on, for each word.
 fn copy_part(words: &mut [u32], size: usize, from: usize, to: usize)
     requires source { from + size ≤ length words.old }
     requires target { to + size ≤ length words.old }
