@@ -1,4 +1,4 @@
-// The worked cases of edits, covers and names hold of the rules.
+// The worked cases of edits, covers, names, batches and marks hold of the rules.
 #![tactic(auto)]
 
 ghost use Rattle.cases.specs.Cases.{WorkedCases};
@@ -9,4 +9,5 @@ pub fn all_cases_hold()
     netlist::worked_cases_hold();
     table::examples_hold();
     text::name_lengths_hold();
+    editor::worked_batches_hold();
 }
