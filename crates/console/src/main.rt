@@ -1,4 +1,4 @@
-// Plays calls from standard input on an editor over the store that its argument names, and prints a line for each.
+// Plays calls from standard input on an editor over the store that its argument names, and prints a line for each. ./netedit runs it.
 #![tactic(auto)]
 
 mod command;
@@ -13,7 +13,7 @@ use session::{Bottom, first_editor, play_one};
 use std::env;
 use std::io::BufReader;
 
-const USAGE: &str = "usage: console log | console snapshot";
+const USAGE: &str = "usage: netedit log | netedit snapshot";
 
 impl TryFrom<&str> for Bottom {
     type Error = anyhow::Error;

@@ -1,4 +1,4 @@
-// The program, for now a bench for the libraries below the editor: it plays commands on the two stores, or checks a text.
+// A bench for the libraries below the editor, which ./stores runs: it plays commands on the two stores, or checks a text.
 #![tactic(auto)]
 
 mod store_mode;
@@ -10,7 +10,7 @@ use store_mode::play_input;
 use text::{File, Script};
 use text_mode::check_input;
 
-const USAGE: &str = "usage: netedit [N D] | netedit check file | netedit check script";
+const USAGE: &str = "usage: stores [N D] | stores check file | stores check script";
 
 fn run(rt: &HostRuntime) -> anyhow::Result<()> {
     let heap = rt.alloc();
