@@ -57,6 +57,10 @@ module _ (m : ℕ) (ws : List ℕ) (sound : Sound m ws) where
       (λ le. absurd (subst (λ d. Among a (pins_of d)) (driver_past m ws t le) h))
       (cases_lt t m)
 
+  -- pins are on signals that there are
+  pub used_below : (a : ℕ) → Used (netlist_of m ws) a → a < m
+  used_below a u = let (q, lt, e) = used-pin a u in omega (arith, sound.chained.within q lt, e)
+
   pin_used : (a q : ℕ) → q < 4 * m → pin m ws q ≡ suc a → Used (netlist_of m ws) a
   pin_used a q lt e =
       let lt4 : q / 4 < m = omega arith in

@@ -1,5 +1,5 @@
 -- The signals of a netlist, from the words.
-use Rattle.std.proofs.Common.{◌≡◌, ℕ, ◌<◌, ◌≤◌, eqb, List, get_or, ap}
+use Rattle.std.proofs.Common.{◌≡◌, ℕ, ◌<◌, ◌≤◌, false, eqb, List, get_or, ap}
 use Rattle.netlist.specs.Netlist.{absent, driver_of, output_of, unused}
 use Rattle.board.specs.Layout.{output}
 use Rattle.board.specs.Board.{driver_at, signal_at, netlist_of}
@@ -17,3 +17,6 @@ driver_past m ws s le = ap (λ x. x.driver) (listing_past (signal_at m ws) 0 m s
 
 pub output_at : (m : ℕ) (ws : List ℕ) (s : ℕ) → s < m → output_of (netlist_of m ws) s ≡ eqb (output m ws s) 1
 output_at m ws s lt = ap (λ x. x.output) (netlist_at m ws s lt)
+
+pub output_past : (m : ℕ) (ws : List ℕ) (s : ℕ) → m ≤ s → output_of (netlist_of m ws) s ≡ false
+output_past m ws s le = ap (λ x. x.output) (listing_past (signal_at m ws) 0 m s unused le)

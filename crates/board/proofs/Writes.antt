@@ -6,10 +6,10 @@ use Rattle.board.specs.Layout.{word}
 use Rattle.board.specs.Stored.{Stored, reworded, Stays, OnlyWords, Cleared}
 
 pub stays-refl : (b : Stored) → Stays b b
-stays-refl b = record { signals = refl; behind = refl }
+stays-refl b = record { signals = refl; size = refl; behind = refl }
 
 pub stays-trans : (a b c : Stored) → Stays a b → Stays b c → Stays a c
-stays-trans a b c h k = record { signals = k.signals ∙ h.signals; behind = k.behind ∙ h.behind }
+stays-trans a b c h k = record { signals = k.signals ∙ h.signals; size = k.size ∙ h.size; behind = k.behind ∙ h.behind }
 
 pub only_words-refl : (b : Stored) → OnlyWords b b
 only_words-refl b = record { stays = stays-refl b; inside = record { levels = refl; limit = refl } }
@@ -20,11 +20,16 @@ only_words-trans a b c h k = record {
   inside = record { levels = k.inside.levels ∙ h.inside.levels; limit = k.inside.limit ∙ h.inside.limit };
 }
 
-pub only_words-reworded : (a b : Stored) (ws : List ℕ) → b ≡ reworded a ws → OnlyWords a b
-only_words-reworded a b ws is = record {
-  stays = record { signals = ap (λ x. x.signals) is; behind = ap (λ x. x.lent) is };
+-- as many words in place of those that there are
+pub only_words-reworded : (a b : Stored) (ws : List ℕ) → length ws ≡ length a.words.image → b ≡ reworded a ws → OnlyWords a b
+only_words-reworded a b ws long is = record {
+  stays = record { signals = ap (λ x. x.signals) is; size = ap (λ x. length x.words.image) is ∙ long; behind = ap (λ x. x.lent) is };
   inside = record { levels = ap (λ x. x.words.saved) is; limit = ap (λ x. x.words.limit) is };
 }
+
+-- one word
+pub only_words-set : (a b : Stored) (at w : ℕ) → b ≡ reworded a (set a.words.image at w) → OnlyWords a b
+only_words-set a b at w is = only_words-reworded a b (set a.words.image at w) (length-set a.words.image at w) is
 
 -- ---- every word 0
 

@@ -15,9 +15,10 @@ pub record Stored : Type 0 where
 abbrev pub reworded : Stored → List ℕ → Stored
 reworded b ws = record { signals = b.signals; words = changed b.words ws; lent = b.lent }
 
--- M and the memory behind the store stay.
+-- M, N and the memory behind the store stay.
 pub record Stays (before after : Stored) : Type 0 where
   pub signals : after.signals ≡ before.signals
+  pub size : size after.words ≡ size before.words
   pub behind : after.lent ≡ before.lent
 
 -- Nothing but words of the present image is changed.

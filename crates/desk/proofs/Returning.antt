@@ -6,17 +6,18 @@ use Rattle.words.specs.Meaning.{Meaning, levels}
 use Rattle.netlist.specs.declared.edit.Refusal.{Refusal}
 use Rattle.netlist.specs.declared.edit.Refusal.TheVariants.{NoEditor, NoBatch, BatchOpen, NoSuchSignal, OutOfRange, Driven, NotDriven, NoSuchPin, InUse, NoLevelForMark, NoMark, MarkOpen, AbsentInUse, Looped}
 use Rattle.netlist.specs.Refusals.{number}
-use Rattle.board.specs.Stored.{Stored}
 use Rattle.editor.specs.declared.call.Call.{Call}
 use Rattle.editor.specs.declared.ticket.Ticket.{Ticket}
 use Rattle.editor.specs.declared.ticket.Returned.{Returned}
 use Rattle.editor.specs.Calls.{Refuses, Replies, Serves}
 use Rattle.editor.specs.Plain.{plain}
+use Rattle.editor.specs.State.{State as EditorState}
 use Rattle.editor.specs.Steps.{Called, HandsBack, closed}
-use Rattle.desk.specs.Held.{Holds, left}
+use Rattle.editor.proofs.Calling.{shown_kept}
+use Rattle.editor.proofs.Stepping.{NoEdit}
+use Rattle.desk.specs.Held.{Backed, left}
 use Rattle.desk.specs.Plays.{returned_with, ticketless, with_ticket}
 use Rattle.desk.specs.State.{State}
-use Rattle.desk.proofs.Holding.{serves_by}
 
 ten_no_batch : (r : Refusal) → number r ≡ 10 → r ≡ NoBatch
 ten_no_batch NoEditor h = absurd (omega (arith, h))
@@ -52,12 +53,13 @@ serves_closing (suc m) a a' c r some low shut h =
     let lt : 0 < suc m = omega arith in replies_ten (suc m) a a' c r (some (shut lt)) low (h.some lt)
 
 -- the other desk: its editor refuses, and is as it was
-pub refused_there : (b b' : Stored) (c : Call) (r : Result ℕ Refusal) (held : Option Ticket) → (levels b.words ≡ 0 → Refuses b.signals b.words c 10)
-    → ((k : ℕ) → k < 10 → Refuses b.signals b.words c k → ⊥) → false ≡ is_some held → Called b c b' r → Holds b.signals b.words held
-    → (r ≡ Err (ticketless b.signals)) × (b'.words ≡ b.words)
-refused_there b b' c r None some low shut called h =
-    serves_closing b.signals b.words b'.words c r some low h.backed (serves_by b.signals b.words b'.words c r None called.idle called.steps h)
-refused_there b b' c r (Some ticket) some low shut called h = absurd cc
+pub refused_there : (e e' : EditorState) (c : Call) (r : Result ℕ Refusal) (held : Option Ticket) → NoEdit c → (levels e.words ≡ 0 → Refuses e.signals e.words c 10)
+    → ((k : ℕ) → k < 10 → Refuses e.signals e.words c k → ⊥) → false ≡ is_some held → Called e c e' r → Backed e.signals e.words held
+    → (r ≡ Err (ticketless e.signals)) × (e' ≡ e)
+refused_there e e' c r None other some low shut called h =
+    let (is, words) = serves_closing e.signals e.words e'.words c r some low h called.serves in
+    (is, λ i. record { signals = called.signals i; words = words i; lent = called.behind i; shown = shown_kept e c r e'.shown other called.shown i })
+refused_there e e' c r (Some ticket) other some low shut called h = absurd cc
 
 -- the desk: its ticket is back
 pub back_at_hand : (r : Result (Unit {0}) Returned) (t : Refusal) (held held' : Option Ticket) (ticket : Ticket) → closed r ≡ Err t → HandsBack ticket r → Some ticket ≡ held → held' ≡ left r
@@ -78,8 +80,8 @@ none_there None m ticket n = refl
 none_there (Some other) m ticket n = absurd cc
 
 pub told_of : (d₀ d e₀ e : State) (ticket : Ticket) → d ≡ d₀ → e ≡ e₀ → Some ticket ≡ d.held → false ≡ is_some e.held
-    → Some (ticketless e.signals) ≡ returned_with d₀.held e₀.signals e₀.held
+    → Some (ticketless e.editor.signals) ≡ returned_with d₀.held e₀.editor.signals e₀.held
 told_of d₀ d e₀ e ticket dis eis some none =
-    subst (λ x. Some (ticketless e.signals) ≡ returned_with x.held e₀.signals e₀.held) dis
-    (subst (λ x. Some (ticketless e.signals) ≡ returned_with d.held x.signals x.held) eis
-    (subst (λ x. Some (ticketless e.signals) ≡ returned_with x e.signals e.held) some (none_there e.held e.signals ticket none)))
+    subst (λ x. Some (ticketless e.editor.signals) ≡ returned_with x.held e₀.editor.signals e₀.held) dis
+    (subst (λ x. Some (ticketless e.editor.signals) ≡ returned_with d.held x.editor.signals x.held) eis
+    (subst (λ x. Some (ticketless e.editor.signals) ≡ returned_with x e.editor.signals e.held) some (none_there e.held e.editor.signals ticket none)))

@@ -1,19 +1,13 @@
 -- What holds of an editor and the ticket at hand.
-use Rattle.std.specs.Prelude.{◌≡◌, ℕ, ◌<◌, List, Some, None, Ok, Err, Option, Result}
+use Rattle.std.specs.Prelude.{◌≡◌, ℕ, ◌<◌, Some, None, Ok, Err, Option, Result}
 use Rattle.words.specs.Meaning.{Meaning, levels}
 use Rattle.editor.specs.declared.ticket.Ticket.{Ticket}
 use Rattle.editor.specs.declared.ticket.Returned.{Returned}
-use Rattle.editor.specs.Log.{Entry, Led}
 
 -- a ticket is at hand exactly while a batch is open
 abbrev pub Backed : ℕ → Meaning → Option Ticket → Type 0
 Backed m a None = 0 < m → levels a ≡ 0
 Backed m a (Some ticket) = (0 < m) × (0 < levels a)
-
--- Some log of calls led to what the store of an editor with signals holds, and the ticket at hand is that of its open batch.
-pub record Holds (m : ℕ) (a : Meaning) (held : Option Ticket) : Type 0 where
-  pub led : 0 < m → (log : List Entry) × Led m log a
-  pub backed : Backed m a held
 
 -- the ticket that a keep or a drop hands back
 abbrev pub left : Result (Unit {0}) Returned → Option Ticket

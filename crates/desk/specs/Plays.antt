@@ -1,6 +1,5 @@
 -- What a call at a desk replies and leaves.
-use Rattle.std.specs.Prelude.{◌≡◌, ℕ, Bool, true, false, zero, suc, List, [], Some, None, Ok, Err, Option, IsSome, Result, replicate}
-use Rattle.words.specs.Meaning.{Meaning}
+use Rattle.std.specs.Prelude.{◌≡◌, ℕ, Bool, true, false, zero, suc, List, Some, None, Ok, Err, Option, IsSome, Result, replicate}
 use Rattle.netlist.specs.declared.edit.Edit.{Edit}
 use Rattle.netlist.specs.declared.edit.Edit.TheVariants.{Input, Output, Gate, Latch, Delete, Move}
 use Rattle.netlist.specs.declared.edit.Refusal.{Refusal}
@@ -8,8 +7,9 @@ use Rattle.netlist.specs.declared.edit.Refusal.TheVariants.{NoEditor, NoBatch}
 use Rattle.editor.specs.declared.call.Call.{Call}
 use Rattle.editor.specs.declared.call.Call.TheVariants.{Begin, Mark, KeepMark, DropMark, Keep, Drop, Make}
 use Rattle.editor.specs.declared.ticket.Ticket.{Ticket}
-use Rattle.editor.specs.Calls.{Serves, emptied}
-use Rattle.editor.specs.Steps.{Steps, ShowsLoop}
+use Rattle.editor.specs.Calls.{emptied}
+use Rattle.editor.specs.Steps.{Called}
+use Rattle.editor.specs.State.{State as EditorState}
 use Rattle.desk.specs.State.{State}
 
 -- what an accepted call makes of the ticket at hand: a batch is begun only where there is none, and one that is closed takes it
@@ -27,23 +27,9 @@ abbrev pub AtHand : Call → Option Ticket → Option Ticket → Result ℕ Refu
 AtHand c held held' (Ok count) = Hands c held held'
 AtHand c held held' (Err r) = held' ≡ held
 
--- The loop that is shown after a call: an edit shows one of the netlist asked for, where it was refused for a loop, else none. Other calls leave it.
-abbrev pub Displays : State → Call → State → Result ℕ Refusal → Type 0
-Displays d Begin d' r = d'.shown ≡ d.shown
-Displays d Mark d' r = d'.shown ≡ d.shown
-Displays d KeepMark d' r = d'.shown ≡ d.shown
-Displays d DropMark d' r = d'.shown ≡ d.shown
-Displays d Keep d' r = d'.shown ≡ d.shown
-Displays d Drop d' r = d'.shown ≡ d.shown
-Displays d (Make e) d' r = ShowsLoop d.signals d.store e r d'.shown × (d.signals ≡ 0 → d'.shown ≡ [])
-
--- The reply and what it leaves are those of the rules, whatever calls were made at the desk before, and the call adds its step to every log.
+-- The editor's call, and what it makes of the ticket at hand.
 pub record Plays (d : State) (c : Call) (d' : State) (r : Result ℕ Refusal) : Type 0 where
-  pub serves : Serves d.signals d.store c d'.store r
-  pub steps : Steps d.signals d.store c d'.store r
-  pub signals : d'.signals ≡ d.signals
-  pub behind : d'.lent ≡ d.lent
-  pub shown : Displays d c d' r
+  pub called : Called d.editor c d'.editor r
   pub hand : AtHand c d.held d'.held r
 
 -- what a keep or a drop is refused with where no ticket is at hand
@@ -70,10 +56,10 @@ ClearsNamed (Latch s net start) flags flags' = flags' ≡ flags
 ClearsNamed (Delete s) flags flags' = flags' ≡ flags
 ClearsNamed (Move s i a) flags flags' = flags' ≡ replicate 1024 0
 
--- what the store means once the desk is closed: a batch that is open is dropped
-abbrev pub closing : Meaning → Option Ticket → Meaning
-closing a None = a
-closing a (Some ticket) = emptied a
+-- the editor once the desk is closed: a batch that is open is dropped
+abbrev pub closing : EditorState → Option Ticket → EditorState
+closing e None = e
+closing e (Some ticket) = record e { words = emptied e.words }
 
 -- ---- tickets of another desk
 

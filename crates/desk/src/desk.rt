@@ -1,12 +1,13 @@
 // The desk: an editor over any store, and the ticket of its open batch.
-ghost use Rattle.std.specs.Prelude.{◌≡◌, [], replicate};
+ghost use Rattle.std.specs.Prelude.{◌≡◌, [], replicate, IfOk};
+ghost use Rattle.netlist.specs.Netlist.{Whole};
+ghost use Rattle.board.specs.Board.{netlist_of};
 ghost use Rattle.editor.specs.declared.call.Call.TheVariants.{Begin, Mark, KeepMark, DropMark, Keep, Drop, Make};
 ghost use Rattle.editor.specs.Made.{Starts};
 ghost use Rattle.editor.specs.Plain.{plain};
-ghost use Rattle.editor.specs.Steps.{closed as closed_reply};
+ghost use Rattle.editor.specs.Steps.{InOrder, closed as closed_reply};
 ghost use Rattle.desk.specs.Plays.{Plays, Clears, ClearsNamed, ticketless, closing, returned_with, Swaps};
-ghost use Rattle.desk.specs.Held.{Holds, left};
-ghost use Rattle.editor.specs.Calls.{emptied};
+ghost use Rattle.desk.specs.Held.{Backed, left};
 
 use editor::{Call, Editor, Returned, Ticket};
 use netlist::{Edit, Refusal};
@@ -22,21 +23,22 @@ pub struct Desk<S: Store> {
 // The editor gives no second ticket, and takes this one back whenever the batch is dropped.
 impl<S: Store> Model for Desk<S> {
     ghost use Rattle.desk.specs.State.{State};
-    ghost use Rattle.desk.specs.Held.{Holds, left};
+    ghost use Rattle.desk.specs.Held.{Backed};
 
     ghost Value = { State };
 
-    ghost view = { λ d. record { signals = d.editor.board.signals; store = d.editor.board.words; lent = d.editor.board.lent; shown = d.editor.shown; held = d.held } };
+    ghost view = { λ d. record { editor = d.editor; held = d.held } };
 
-    ghost invariant = { λ d. Holds d.editor.board.signals d.editor.board.words d.held };
+    ghost invariant = { λ d. Backed d.editor.signals d.editor.words d.held };
 }
 
 impl<S: Store> Desk<S> {
     // The editor is made as by itself. No ticket is at hand.
     pub fn new(store: S, signals: u32) -> Desk<S>
-        ensures starts { Starts signals (S.Store.model store) result.signals result.store }
-        ensures behind { result.lent ≡ S.Store.lent store }
-        ensures shown { result.shown ≡ [] }
+        ensures starts { Starts signals (S.Store.model store) result.editor.signals result.editor.words }
+        ensures order { InOrder result.editor.signals result.editor.words }
+        ensures behind { result.editor.lent ≡ S.Store.lent store }
+        ensures shown { result.editor.shown ≡ [] }
         ensures held { result.held ≡ None }
     {
         Desk {
@@ -46,10 +48,7 @@ impl<S: Store> Desk<S> {
     }
 
     pub fn editor(&self) -> &Editor<S>
-        ensures signals { result.now.board.signals ≡ self.now.signals }
-        ensures store { result.now.board.words ≡ self.now.store }
-        ensures behind { result.now.board.lent ≡ self.now.lent }
-        ensures shown { result.now.shown ≡ self.now.shown }
+        ensures { result.now ≡ self.now.editor }
     {
         &self.editor
     }
@@ -82,7 +81,8 @@ impl<S: Store> Desk<S> {
 
     pub fn keep(&mut self) -> Result<(), Refusal>
         ensures plays { Plays self.old Keep self.new (plain result) }
-        ensures without { self.old.held ≡ None → result ≡ Err (ticketless self.old.signals) }
+        ensures whole { IfOk result (λ _. Whole (netlist_of self.new.editor.signals self.new.editor.words.image)) }
+        ensures without { self.old.held ≡ None → result ≡ Err (ticketless self.old.editor.signals) }
     {
         match self.held.take() {
             None => Err(no_ticket(&self.editor)),
@@ -93,7 +93,7 @@ impl<S: Store> Desk<S> {
     // It and `keep` differ in one call of the editor; a closure over that would need a contract as long as either.
     pub fn drop_batch(&mut self) -> Result<(), Refusal>
         ensures plays { Plays self.old Drop self.new (plain result) }
-        ensures without { self.old.held ≡ None → result ≡ Err (ticketless self.old.signals) }
+        ensures without { self.old.held ≡ None → result ≡ Err (ticketless self.old.editor.signals) }
     {
         match self.held.take() {
             None => Err(no_ticket(&self.editor)),
@@ -147,10 +147,7 @@ impl<S: Store> Desk<S> {
 
     // Drops the open batch, if there is one, and gives the editor.
     pub fn close(self) -> Editor<S>
-        ensures signals { result.board.signals ≡ self.signals }
-        ensures store { result.board.words ≡ closing self.store self.held }
-        ensures behind { result.board.lent ≡ self.lent }
-        ensures shown { result.shown ≡ self.shown }
+        ensures { result ≡ closing self.editor self.held }
     {
         let Desk { editor, held } = self;
         match held {
@@ -164,7 +161,7 @@ impl<S: Store> Desk<S> {
     // What an editor without a batch refuses the ticket at hand with, when it is to keep. It is handed back. None where nothing is handed in;
     // no such editor accepts a ticket, so there is no success to tell.
     pub fn keep_at<B: Store>(&mut self, other: &mut Desk<B>) -> Option<Refusal>
-        ensures told { result ≡ returned_with self.old.held other.old.signals other.old.held }
+        ensures told { result ≡ returned_with self.old.held other.old.editor.signals other.old.held }
         ensures own { self.new ≡ self.old }
         ensures other { other.new ≡ other.old }
     {
@@ -177,7 +174,7 @@ impl<S: Store> Desk<S> {
 
     // The same when it is to drop. It is apart from `keep_at` as `drop_batch` is from `keep`.
     pub fn drop_at<B: Store>(&mut self, other: &mut Desk<B>) -> Option<Refusal>
-        ensures told { result ≡ returned_with self.old.held other.old.signals other.old.held }
+        ensures told { result ≡ returned_with self.old.held other.old.editor.signals other.old.held }
         ensures own { self.new ≡ self.old }
         ensures other { other.new ≡ other.old }
     {
@@ -235,7 +232,8 @@ fn closed(held: &mut Option<Ticket>, reply: Result<(), Returned>) -> Result<(), 
 
 // What keep and drop reply where there is no ticket to hand in.
 fn no_ticket<S: Store>(editor: &Editor<S>) -> Refusal
-    ensures { result ≡ ticketless editor.now.board.signals }
+    ensures reply { result ≡ ticketless editor.now.signals }
+    ensures order { InOrder editor.now.signals editor.now.words }
 {
     if editor.signals() == 0 {
         Refusal::NoEditor
@@ -246,11 +244,8 @@ fn no_ticket<S: Store>(editor: &Editor<S>) -> Refusal
 
 // An open batch is dropped, and its ticket spent.
 fn drop_open<S: Store>(editor: Editor<S>, ticket: Ticket) -> Editor<S>
-    requires { Holds editor.board.signals editor.board.words (Some ticket) }
-    ensures signals { result.board.signals ≡ editor.board.signals }
-    ensures store { result.board.words ≡ emptied editor.board.words }
-    ensures behind { result.board.lent ≡ editor.board.lent }
-    ensures shown { result.shown ≡ editor.shown }
+    requires { Backed editor.signals editor.words (Some ticket) }
+    ensures { result ≡ closing editor (Some ticket) }
 {
     let mut editor = editor;
     match editor.drop_batch(ticket) {

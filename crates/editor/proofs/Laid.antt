@@ -1,9 +1,9 @@
 -- Words that hold the empty netlist.
 use Rattle.std.proofs.Common.{◌≡◌, ℕ, zero, suc, ◌+◌, ◌*◌, ◌<◌, ◌≤◌, false, eqb, ◌⊎◌, List, ◌∷◌, length, get_or, replicate, sym, refl, ap, ◌∙◌, subst, inl, inr, ⊎_elim, arith}
 use Rattle.std.proofs.lemmas.List.{get_or_past, get_or-replicate, length-replicate}
-use Rattle.std.proofs.lemmas.Bool.{cases_lt, eq-eqb, ne_eqb, cond-true, cond-false}
+use Rattle.std.proofs.lemmas.Bool.{true≢false, cases_lt, eq-eqb, ne_eqb, cond-true, cond-false}
 use Rattle.reach.specs.Reach.{Among}
-use Rattle.netlist.specs.Netlist.{absent, unused, driver_of, feeders, pins_of, empty_netlist}
+use Rattle.netlist.specs.Netlist.{absent, unused, driver_of, output_of, feeders, pins_of, Whole, empty_netlist}
 use Rattle.netlist.specs.Places.{Order, place, counted, first_order, Arranges, Ordered}
 use Rattle.netlist.specs.Edits.{empty_board}
 use Rattle.board.specs.Layout.{word, kind, output, seat, holder, pin}
@@ -58,6 +58,14 @@ none-driven : (m s : ℕ) → driver_of (empty_netlist m) s ≡ absent
 none-driven m s =
     ap (λ x. x.driver)
     (⊎_elim (λ lt. get_or-replicate m s unused unused lt) (λ le. get_or_past (empty_netlist m) s unused (omega (arith, length-replicate m unused))) (cases_lt s m))
+
+none-marked : (m s : ℕ) → output_of (empty_netlist m) s ≡ false
+none-marked m s =
+    ap (λ x. x.output)
+    (⊎_elim (λ lt. get_or-replicate m s unused unused lt) (λ le. get_or_past (empty_netlist m) s unused (omega (arith, length-replicate m unused))) (cases_lt s m))
+
+pub empty_whole : (m : ℕ) → Whole (empty_netlist m)
+empty_whole m s gone = (λ out. true≢false (sym out ∙ none-marked m s), λ used. subst (λ d. Among s (pins_of d)) (none-driven m used.0) used.1)
 
 empty_ordered : (m : ℕ) (o : Order) → Ordered (empty_netlist m) o
 empty_ordered m o a s h = absurd (subst (λ d. Among a (feeders d)) (none-driven m s) h)

@@ -5,10 +5,12 @@ mod Emptied
 mod Instance
 mod Laid
 pub mod Led
+pub mod Ordering
 mod Pinned
 mod Rotation
 mod Scanned
 mod Starting
-mod Stepping
+pub mod Stepping
 mod Told
+mod Wholeness
 mod Written

@@ -6,4 +6,5 @@ pub mod Making
 pub mod Plain
 pub mod Questions
 pub mod Shown
+pub mod State
 pub mod Steps

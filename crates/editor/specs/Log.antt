@@ -3,11 +3,13 @@ use Rattle.std.specs.Prelude.{ℕ, ◌<◌, ◌≤◌, List, [], ◌∷◌, ◌+
 use Rattle.words.specs.Meaning.{Meaning, levels}
 use Rattle.netlist.specs.declared.edit.Edit.{Edit}
 use Rattle.netlist.specs.declared.edit.Refusal.{Refusal}
+use Rattle.netlist.specs.Netlist.{Whole}
 use Rattle.netlist.specs.Edits.{Board, empty_board, Edits}
-use Rattle.board.specs.Board.{board_of}
+use Rattle.board.specs.Board.{board_of, netlist_of}
 use Rattle.board.specs.Standing.{Stands}
 use Rattle.editor.specs.declared.call.Call.{Call}
 use Rattle.editor.specs.declared.call.Call.TheVariants.{Begin, Mark, KeepMark, DropMark, Keep, Drop, Make}
+use Rattle.editor.specs.Calls.{oldest}
 
 -- a call, and what was replied
 pub record Entry : Type 0 where
@@ -68,7 +70,7 @@ HoldsSaved m edits [] (ws ∷ saved) = ⊥
 HoldsSaved m edits (note ∷ notes) [] = ⊥
 HoldsSaved m edits (note ∷ notes) (ws ∷ saved) = (note ≤ length edits) × Holds m (take note edits) ws × HoldsSaved m (take note edits) notes saved
 
--- A log of calls led to this meaning of the store: the present image holds what the surviving edits give, and so does each saved one up to its note. One level is always left.
+-- A log of calls led to this meaning of the store: the present image holds what the surviving edits give, and so does each saved one up to its note. One level is always left, and outside a batch the netlist is whole.
 pub record Led (m : ℕ) (log : List Entry) (a : Meaning) : Type 0 where
   pub some : 0 < m
   pub few : m ≤ 1024
@@ -76,3 +78,4 @@ pub record Led (m : ℕ) (log : List Entry) (a : Meaning) : Type 0 where
   pub room : levels a < a.limit
   pub present : Holds m (tally log).edits a.image
   pub saved : HoldsSaved m (tally log).edits (tally log).notes a.saved
+  pub whole : Whole (netlist_of m (oldest a.image a.saved))

@@ -1,47 +1,49 @@
--- The step that a call adds to every log of calls.
+-- What every call of an editor promises.
 use Rattle.std.specs.Prelude.{◌≡◌, ℕ, List, [], ◌∷◌, ◌++◌, Ok, Err, Result}
-use Rattle.words.specs.Meaning.{Meaning}
-use Rattle.netlist.specs.declared.edit.Edit.{Edit}
+use Rattle.words.specs.Meaning.{Meaning, size, levels}
 use Rattle.netlist.specs.declared.edit.Refusal.{Refusal}
-use Rattle.board.specs.Board.{netlist_of}
-use Rattle.board.specs.Stored.{Stored, Stays}
+use Rattle.netlist.specs.Netlist.{Whole}
+use Rattle.netlist.specs.Places.{Arranges, Ordered}
+use Rattle.board.specs.Board.{netlist_of, order_of}
 use Rattle.editor.specs.declared.call.Call.{Call}
-use Rattle.editor.specs.declared.call.Call.TheVariants.{Make}
-use Rattle.editor.specs.declared.editor.Editor.{Editor}
+use Rattle.editor.specs.declared.call.Call.TheVariants.{Begin, Mark, KeepMark, DropMark, Keep, Drop, Make}
 use Rattle.editor.specs.declared.ticket.Ticket.{Ticket}
 use Rattle.editor.specs.declared.ticket.Returned.{Returned}
 use Rattle.editor.specs.Calls.{Serves}
 use Rattle.editor.specs.Log.{Entry, Led}
 use Rattle.editor.specs.Shown.{Shows}
+use Rattle.editor.specs.State.{State}
 
--- For every log that led to where a call was made, the reply and what it leaves are those of the rules, and the log with this call leads to what it left.
+-- For every log that led to where a call was made, the log with this call leads to what it left.
 abbrev pub Steps : ℕ → Meaning → Call → Meaning → Result ℕ Refusal → Type 0
-Steps m a c a' r = (log : List Entry) → Led m log a → Serves m a c a' r × Led m (log ++ (record { call = c; reply = r }) ∷ []) a'
+Steps m a c a' r = (log : List Entry) → Led m log a → Led m (log ++ (record { call = c; reply = r }) ∷ []) a'
 
--- An editor of no signals refuses the call with 1 and leaves the store alone.
-abbrev pub Idle : ℕ → Meaning → Call → Meaning → Result ℕ Refusal → Type 0
-Idle m a c a' r = m ≡ 0 → Serves m a c a' r
+-- The places are a permutation of the signals, each gate stands behind all signals that feed it, and outside a batch the netlist is whole.
+pub record InOrder (m : ℕ) (a : Meaning) : Type 0 where
+  pub permutes : Arranges m (order_of m a.image)
+  pub ordered : Ordered (netlist_of m a.image) (order_of m a.image)
+  pub whole : levels a ≡ 0 → Whole (netlist_of m a.image)
 
--- The loop shown after an edit is one of the netlist asked for, where the edit was refused for a loop; else none is.
-abbrev pub ShowsLoop : ℕ → Meaning → Edit → Result ℕ Refusal → List ℕ → Type 0
-ShowsLoop m a e r shown = (log : List Entry) → Led m log a → Shows (netlist_of m a.image) e r shown
+-- The loop that is shown after a call: an edit shows one of the netlist asked for, where it was refused for a loop, else none. Other calls leave it.
+abbrev pub Displays : State → Call → Result ℕ Refusal → List ℕ → Type 0
+Displays s Begin r shown = shown ≡ s.shown
+Displays s Mark r shown = shown ≡ s.shown
+Displays s KeepMark r shown = shown ≡ s.shown
+Displays s DropMark r shown = shown ≡ s.shown
+Displays s Keep r shown = shown ≡ s.shown
+Displays s Drop r shown = shown ≡ s.shown
+Displays s (Make e) r shown = Shows (netlist_of s.signals s.words.image) e r shown
 
--- What a call on a board replies and leaves; M and the memory behind the store stay.
-pub record Called (before : Stored) (c : Call) (after : Stored) (r : Result ℕ Refusal) : Type 0 where
+-- The reply and what it leaves are those of the rules, whatever calls were made before, and the call adds its step to every log. Netlist and order
+-- are right after it. M, N and the memory behind the store stay.
+pub record Called (before : State) (c : Call) (after : State) (r : Result ℕ Refusal) : Type 0 where
+  pub serves : Serves before.signals before.words c after.words r
   pub steps : Steps before.signals before.words c after.words r
-  pub idle : Idle before.signals before.words c after.words r
-  pub stays : Stays before after
-
--- A call of batches and marks leaves the loop that is shown.
-pub record Batched {S : Type 0} (before : Editor S) (c : Call) (after : Editor S) (r : Result ℕ Refusal) : Type 0 where
-  pub called : Called before.board c after.board r
-  pub shown : after.shown ≡ before.shown
-
--- An edit, and the loop that is shown after it: none by an editor of no signals.
-pub record Edited {S : Type 0} (before : Editor S) (e : Edit) (after : Editor S) (r : Result ℕ Refusal) : Type 0 where
-  pub called : Called before.board (Make e) after.board r
-  pub shows : ShowsLoop before.board.signals before.board.words e r after.shown
-  pub hidden : before.board.signals ≡ 0 → after.shown ≡ []
+  pub order : InOrder after.signals after.words
+  pub shown : Displays before c r after.shown
+  pub signals : after.signals ≡ before.signals
+  pub size : size after.words ≡ size before.words
+  pub behind : after.lent ≡ before.lent
 
 -- ---- replies that carry a ticket
 

@@ -1,11 +1,13 @@
 // The editor: M signals in the words of any store, and the loop that is shown.
-ghost use Rattle.std.specs.Prelude.{◌≡◌, ◌<◌, [], replicate, MatchResult};
+ghost use Rattle.std.specs.Prelude.{◌≡◌, ◌<◌, [], replicate, IfOk, MatchResult};
+ghost use Rattle.netlist.specs.Netlist.{Whole};
 ghost use Rattle.netlist.specs.declared.edit.Edit.TheVariants.{Input, Output, Gate, Latch, Delete, Move};
 ghost use Rattle.netlist.specs.declared.edit.Refusal.TheVariants.{NoEditor};
-ghost use Rattle.editor.specs.declared.call.Call.TheVariants.{Begin, Mark, KeepMark, DropMark, Keep, Drop};
+ghost use Rattle.board.specs.Board.{netlist_of};
+ghost use Rattle.editor.specs.declared.call.Call.TheVariants.{Begin, Mark, KeepMark, DropMark, Keep, Drop, Make};
 ghost use Rattle.editor.specs.Made.{Tests, Starts};
 ghost use Rattle.editor.specs.Plain.{plain};
-ghost use Rattle.editor.specs.Steps.{Batched, Edited, begun, closed, HandsBack};
+ghost use Rattle.editor.specs.Steps.{Called, InOrder, begun, closed, HandsBack};
 
 use crate::batch::{drop_batch, drop_mark, keep_batch, keep_mark, open_batch, open_mark};
 use crate::making::{fits, lay_empty};
@@ -15,12 +17,24 @@ use board::StoredBoard;
 use edits::{EditFault, add_input, add_latch, delete_signal, make_edit, mark_output};
 use netlist::{Edit, Refusal};
 use reach::clear;
+use std::marker::Model;
 use words::Store;
 
 #[derive(Drop)]
 pub struct Editor<S: Store> {
     pub(crate) board: StoredBoard<S>,
     pub(crate) shown: Shown,
+}
+
+// Every editor was led to by calls, so that no clause asks for them.
+impl<S: Store> Model for Editor<S> {
+    ghost use Rattle.editor.specs.State.{State, state_of, Reached};
+
+    ghost Value = { State };
+
+    ghost view = { λ e. state_of e.board e.shown };
+
+    ghost invariant = { λ e. Reached e.board.signals e.board.words };
 }
 
 impl<S: Store> Editor<S> {
@@ -37,9 +51,10 @@ impl<S: Store> Editor<S> {
 
     // The editor of the empty netlist, or where the test refuses the one of no signals, which leaves the store alone.
     pub fn new(store: S, signals: u32) -> Editor<S>
-        ensures starts { Starts signals (S.Store.model store) result.board.signals result.board.words }
+        ensures starts { Starts signals (S.Store.model store) result.signals result.words }
+        ensures order { InOrder result.signals result.words }
         ensures shown { result.shown ≡ [] }
-        ensures behind { result.board.lent ≡ S.Store.lent store }
+        ensures behind { result.lent ≡ S.Store.lent store }
     {
         if !fits(&store, signals) {
             return Editor {
@@ -55,50 +70,40 @@ impl<S: Store> Editor<S> {
         }
     }
 
-    // An editor without signals serves no call.
-    fn serves(&self) -> Result<(), Refusal>
-        ensures { MatchResult result (λ _. 0 < self.now.board.signals) (λ e. (e ≡ NoEditor) × (self.now.board.signals ≡ 0)) }
-    {
-        if self.board.signals() == 0 {
-            Err(Refusal::NoEditor)
-        } else {
-            Ok(())
-        }
-    }
-
     // ---- batches and marks
 
     pub fn begin(&mut self) -> Result<Ticket, Refusal>
-        ensures { Batched self.old Begin self.new (begun result) }
+        ensures { Called self.old Begin self.new (begun result) }
     {
-        self.serves()?;
+        serves(&self.board)?;
         open_batch(&mut self.board)?;
         Ok(Ticket::issue())
     }
 
     pub fn mark(&mut self) -> Result<(), Refusal>
-        ensures { Batched self.old Mark self.new (plain result) }
+        ensures { Called self.old Mark self.new (plain result) }
     {
-        self.serves()?;
+        serves(&self.board)?;
         open_mark(&mut self.board)
     }
 
     pub fn keep_mark(&mut self) -> Result<(), Refusal>
-        ensures { Batched self.old KeepMark self.new (plain result) }
+        ensures { Called self.old KeepMark self.new (plain result) }
     {
-        self.serves()?;
+        serves(&self.board)?;
         keep_mark(&mut self.board)
     }
 
     pub fn drop_mark(&mut self) -> Result<(), Refusal>
-        ensures { Batched self.old DropMark self.new (plain result) }
+        ensures { Called self.old DropMark self.new (plain result) }
     {
-        self.serves()?;
+        serves(&self.board)?;
         drop_mark(&mut self.board)
     }
 
     pub fn keep(&mut self, ticket: Ticket) -> Result<(), Returned>
-        ensures batched { Batched self.old Keep self.new (closed result) }
+        ensures called { Called self.old Keep self.new (closed result) }
+        ensures whole { IfOk result (λ _. Whole (netlist_of self.new.signals self.new.words.image)) }
         ensures back { HandsBack ticket result }
     {
         let reply = self.close_keeping();
@@ -106,14 +111,14 @@ impl<S: Store> Editor<S> {
     }
 
     fn close_keeping(&mut self) -> Result<(), Refusal>
-        ensures { Batched self.old Keep self.new (plain result) }
+        ensures { Called self.old Keep self.new (plain result) }
     {
-        self.serves()?;
+        serves(&self.board)?;
         keep_batch(&mut self.board)
     }
 
     pub fn drop_batch(&mut self, ticket: Ticket) -> Result<(), Returned>
-        ensures batched { Batched self.old Drop self.new (closed result) }
+        ensures called { Called self.old Drop self.new (closed result) }
         ensures back { HandsBack ticket result }
     {
         let reply = self.close_dropping();
@@ -122,9 +127,9 @@ impl<S: Store> Editor<S> {
 
     // It and `close_keeping` differ in one call on the board; a closure that changes it would need a contract as long as either.
     fn close_dropping(&mut self) -> Result<(), Refusal>
-        ensures { Batched self.old Drop self.new (plain result) }
+        ensures { Called self.old Drop self.new (plain result) }
     {
-        self.serves()?;
+        serves(&self.board)?;
         drop_batch(&mut self.board)
     }
 
@@ -132,34 +137,34 @@ impl<S: Store> Editor<S> {
 
     // The four that put no pin differ in one call on the board; a closure that changes it would need a contract as long as any of theirs.
     pub fn input(&mut self, signal: u32) -> Result<u32, Refusal>
-        ensures { Edited self.old (Input signal) self.new result }
+        ensures { Called self.old (Make (Input signal)) self.new result }
     {
         self.shown.clear();
-        self.serves()?;
+        serves(&self.board)?;
         add_input(&mut self.board, signal)
     }
 
     pub fn output(&mut self, signal: u32, mark: u32) -> Result<u32, Refusal>
-        ensures { Edited self.old (Output signal mark) self.new result }
+        ensures { Called self.old (Make (Output signal mark)) self.new result }
     {
         self.shown.clear();
-        self.serves()?;
+        serves(&self.board)?;
         mark_output(&mut self.board, signal, mark)
     }
 
     pub fn latch(&mut self, signal: u32, net: u32, start: u32) -> Result<u32, Refusal>
-        ensures { Edited self.old (Latch signal net start) self.new result }
+        ensures { Called self.old (Make (Latch signal net start)) self.new result }
     {
         self.shown.clear();
-        self.serves()?;
+        serves(&self.board)?;
         add_latch(&mut self.board, signal, net, start)
     }
 
     pub fn delete(&mut self, signal: u32) -> Result<u32, Refusal>
-        ensures { Edited self.old (Delete signal) self.new result }
+        ensures { Called self.old (Make (Delete signal)) self.new result }
     {
         self.shown.clear();
-        self.serves()?;
+        serves(&self.board)?;
         delete_signal(&mut self.board, signal)
     }
 
@@ -172,7 +177,7 @@ impl<S: Store> Editor<S> {
         table: u32,
         flags: &mut [u8; 1024],
     ) -> Result<u32, Refusal>
-        ensures edited { Edited self.old (Gate signal pins nets table) self.new result }
+        ensures called { Called self.old (Make (Gate signal pins nets table)) self.new result }
         ensures clean { flags.new ≡ replicate 1024 0 }
     {
         self.make(
@@ -193,7 +198,7 @@ impl<S: Store> Editor<S> {
         net: u32,
         flags: &mut [u8; 1024],
     ) -> Result<u32, Refusal>
-        ensures edited { Edited self.old (Move signal pin net) self.new result }
+        ensures called { Called self.old (Make (Move signal pin net)) self.new result }
         ensures clean { flags.new ≡ replicate 1024 0 }
     {
         self.make(Edit::Move { signal, pin, net }, flags)
@@ -201,12 +206,12 @@ impl<S: Store> Editor<S> {
 
     // Any edit, as a value.
     pub fn make(&mut self, edit: Edit, flags: &mut [u8; 1024]) -> Result<u32, Refusal>
-        ensures edited { Edited self.old edit self.new result }
+        ensures called { Called self.old (Make edit) self.new result }
         ensures clean { flags.new ≡ replicate 1024 0 }
     {
         self.shown.clear();
         clear(flags);
-        self.serves()?;
+        serves(&self.board)?;
         // a loop is shown on the way, so no conversion of the fault would do
         match make_edit(&mut self.board, edit, flags) {
             Ok(count) => Ok(count),
@@ -216,5 +221,16 @@ impl<S: Store> Editor<S> {
                 Err(Refusal::Looped)
             }
         }
+    }
+}
+
+// An editor without signals serves no call.
+fn serves<S: Store>(board: &StoredBoard<S>) -> Result<(), Refusal>
+    ensures { MatchResult result (λ _. 0 < board.now.signals) (λ e. (e ≡ NoEditor) × (board.now.signals ≡ 0)) }
+{
+    if board.signals() == 0 {
+        Err(Refusal::NoEditor)
+    } else {
+        Ok(())
     }
 }

@@ -1,5 +1,5 @@
 // What the words tell of a signal or a place, each at a cost that does not grow with the netlist, but for the smallest absent signal in use.
-ghost use Rattle.std.specs.Prelude.{◌≡◌, ℕ, ◌-◌, ◌<◌, ◌≤◌, List, [], ◌∷◌, length, take, Decides, MatchOption, slice_index};
+ghost use Rattle.std.specs.Prelude.{◌≡◌, ℕ, ◌-◌, ◌<◌, ◌≤◌, [], ◌∷◌, length, take, Decides, MatchOption, slice_index};
 ghost use Rattle.words.specs.Meaning.{levels as levels_of};
 ghost use Rattle.table.specs.Table.{IsTable};
 ghost use Rattle.netlist.specs.Netlist.{driver_of, output_of, pins_of};
@@ -8,7 +8,7 @@ ghost use Rattle.board.specs.Kinds.{kind_of};
 ghost use Rattle.board.specs.Layout.{value as value_word_of};
 ghost use Rattle.board.specs.Board.{netlist_of, nets as nets_of, order_of};
 ghost use Rattle.editor.specs.Calls.{Missing};
-ghost use Rattle.editor.specs.Log.{Entry, Led};
+ghost use Rattle.editor.specs.Steps.{InOrder};
 ghost use Rattle.editor.specs.Questions.{Tells, pin_words_lem, TableOf, start_of};
 
 use crate::batch::smallest_missing;
@@ -22,57 +22,58 @@ use words::Store;
 pub type Pins = ArrayVec<u32, 4>;
 
 impl<S: Store> Editor<S> {
-    // M
+    // M. Netlist and order of any editor are right.
     pub fn signals(&self) -> u32
-        ensures { result ≡ self.now.board.signals }
+        ensures count { result ≡ self.now.signals }
+        ensures order { InOrder self.now.signals self.now.words }
     {
         self.board.signals()
     }
 
     // how many levels are open
     pub fn levels(&self) -> usize
-        ensures { result ≡ levels_of self.now.board.words }
+        ensures { result ≡ levels_of self.now.words }
     {
         self.board.levels()
     }
 
     // whether a batch is open
     pub fn batch_open(&self) -> bool
-        ensures { Decides result (0 < levels_of self.now.board.words) }
+        ensures { Decides result (0 < levels_of self.now.words) }
     {
         self.board.levels() > 0
     }
 
     // every level but that of the batch is a mark
     pub fn marks_open(&self) -> usize
-        ensures { result ≡ levels_of self.now.board.words - 1 }
+        ensures { result ≡ levels_of self.now.words - 1 }
     {
         self.board.levels().saturating_sub(1)
     }
 
     // Nothing is told of a signal that is not below M.
     pub fn kind(&self, signal: u32) -> Option<Kind>
-        ensures { Tells self.now.board.signals signal (λ k. (k ≡ kind_of (driver_of (netlist_of self.now.board.signals self.now.board.words.image) signal))) result }
+        ensures { Tells self.now.signals signal (λ k. (k ≡ kind_of (driver_of (netlist_of self.now.signals self.now.words.image) signal))) result }
     {
         (signal < self.signals()).then_some(self.board.kind(signal))
     }
 
     pub fn output_mark(&self, signal: u32) -> Option<bool>
-        ensures { Tells self.now.board.signals signal (λ o. (o ≡ output_of (netlist_of self.now.board.signals self.now.board.words.image) signal)) result }
+        ensures { Tells self.now.signals signal (λ o. (o ≡ output_of (netlist_of self.now.signals self.now.words.image) signal)) result }
     {
         (signal < self.signals()).then_some(self.board.is_output(signal))
     }
 
     // the signals that its pins are on
     pub fn pins(&self, signal: u32) -> Option<Pins>
-        ensures { Tells self.now.board.signals signal (λ p. (p.items ≡ pins_of (driver_of (netlist_of self.now.board.signals self.now.board.words.image) signal))) result }
+        ensures { Tells self.now.signals signal (λ p. (p.items ≡ pins_of (driver_of (netlist_of self.now.signals self.now.words.image) signal))) result }
     {
         (signal < self.signals()).then_some(pins_at(&self.board, signal))
     }
 
     // the table of a gate
     pub fn table(&self, signal: u32) -> Option<Table>
-        ensures { (log : List Entry) → Led self.now.board.signals log self.now.board.words → TableOf (driver_of (netlist_of self.now.board.signals self.now.board.words.image) signal) result }
+        ensures { TableOf (driver_of (netlist_of self.now.signals self.now.words.image) signal) result }
     {
         match self.board.kind(signal) {
             Kind::Gate => table_at(&self.board, signal),
@@ -82,7 +83,7 @@ impl<S: Store> Editor<S> {
 
     // the start value of a latch
     pub fn start(&self, signal: u32) -> Option<u32>
-        ensures { result ≡ start_of (driver_of (netlist_of self.now.board.signals self.now.board.words.image) signal) }
+        ensures { result ≡ start_of (driver_of (netlist_of self.now.signals self.now.words.image) signal) }
     {
         match self.board.kind(signal) {
             Kind::Latch => Some(self.board.read(Field::Value, signal)),
@@ -91,13 +92,13 @@ impl<S: Store> Editor<S> {
     }
 
     pub fn place(&self, signal: u32) -> Option<u32>
-        ensures { Tells self.now.board.signals signal (λ p. ((log : List Entry) → Led self.now.board.signals log self.now.board.words → p ≡ place_of (order_of self.now.board.signals self.now.board.words.image) signal)) result }
+        ensures { Tells self.now.signals signal (λ p. (p ≡ place_of (order_of self.now.signals self.now.words.image) signal)) result }
     {
         (signal < self.signals()).then_some(self.board.read(Field::Seat, signal))
     }
 
     pub fn signal_at(&self, place: u32) -> Option<u32>
-        ensures { Tells self.now.board.signals place (λ s. (s ≡ slice_index (order_of self.now.board.signals self.now.board.words.image) place)) result }
+        ensures { Tells self.now.signals place (λ s. (s ≡ slice_index (order_of self.now.signals self.now.words.image) place)) result }
     {
         (place < self.signals()).then_some(self.board.read(Field::Holder, place))
     }
@@ -111,7 +112,7 @@ impl<S: Store> Editor<S> {
 
     // the smallest absent signal in use
     pub fn missing(&self) -> Option<u32>
-        ensures { (log : List Entry) → Led self.now.board.signals log self.now.board.words → MatchOption result ((s : ℕ) → Missing self.now.board.signals (netlist_of self.now.board.signals self.now.board.words.image) s → ⊥) (λ s. Missing self.now.board.signals (netlist_of self.now.board.signals self.now.board.words.image) s × ((t : ℕ) → t < s → Missing self.now.board.signals (netlist_of self.now.board.signals self.now.board.words.image) t → ⊥)) }
+        ensures { MatchOption result ((s : ℕ) → Missing self.now.signals (netlist_of self.now.signals self.now.words.image) s → ⊥) (λ s. Missing self.now.signals (netlist_of self.now.signals self.now.words.image) s × ((t : ℕ) → t < s → Missing self.now.signals (netlist_of self.now.signals self.now.words.image) t → ⊥)) }
     {
         smallest_missing(&self.board)
     }

@@ -1,5 +1,5 @@
 use Rattle.std.proofs.Common.{◌+◌, ◌*◌, refl, ap, arith}
-use Rattle.board.proofs.Writes.{only_words-refl, only_words-trans, only_words-reworded}
+use Rattle.board.proofs.Writes.{only_words-refl, only_words-trans, only_words-set}
 use Rattle.editor.proofs.Written.{size_more, seated_none, seated_more}
 use Rattle.editor.proofs.making.seat_all.Goals as goal
 
@@ -15,10 +15,10 @@ loop-signal-preserved g c =
     let d = c.write.new.self in
     let f = c.write-in-loop-signal.new.self in
     let only = c.loop-signal.invariant.0 in
-    let first = only_words-trans b l d only (only_words-reworded l d _ c.write.ensures) in
+    let first = only_words-trans b l d only (only_words-set l d _ _ c.write.ensures) in
     let one = ap (λ x. x.words) c.write.ensures in
     let two = ap (λ x. x.words) c.write-in-loop-signal.ensures in (
-      only_words-trans b d f first (only_words-reworded d f _ c.write-in-loop-signal.ensures),
+      only_words-trans b d f first (only_words-set d f _ _ c.write-in-loop-signal.ensures),
       size_more b.words d.words f.words (4 * d.signals + n) n two (size_more b.words l.words d.words (3 * l.signals + n) n one c.loop-signal.invariant.1),
       λ room. seated_more m n b.words.image l.words d.words f.words (3 * l.signals + n) (4 * d.signals + n) (omega (arith, c.loop-signal-test.true, c.signals-signal-end.ensures))
           (omega (arith, c.loop-signal.invariant.1, room)) one two (ap (λ k. 3 * k + n) only.stays.signals) (ap (λ k. 4 * k + n) first.stays.signals)

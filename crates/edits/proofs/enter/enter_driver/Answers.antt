@@ -1,6 +1,6 @@
 use Rattle.std.proofs.Common.{◌≡◌, ◌+◌, ◌*◌, set, ap, ◌∙◌}
 use Rattle.board.specs.Kinds.{word_of}
-use Rattle.board.proofs.Writes.{only_words-trans, only_words-reworded}
+use Rattle.board.proofs.Writes.{only_words-trans, only_words-set}
 use Rattle.edits.proofs.Carried.{wires-same}
 use Rattle.edits.proofs.Writing.{still_wirable, driver_entered}
 use Rattle.edits.proofs.enter.enter_driver.Goals as goal
@@ -14,8 +14,8 @@ returns g c =
     let kinded = c.set_kind.new.self in
     let headed = c.write.new.self in
     let kind = word_of c.args.kind in
-    let first = only_words-reworded b kinded _ c.set_kind.ensures in
-    let both = only_words-trans b kinded headed first (only_words-reworded kinded headed _ c.write.ensures) in
+    let first = only_words-set b kinded _ _ c.set_kind.ensures in
+    let both = only_words-trans b kinded headed first (only_words-set kinded headed _ _ c.write.ensures) in
     let written : headed.words.image ≡ set (set ws s kind) (2 * m + s) c.args.value =
     ap (λ x. x.words.image) c.write.ensures
     ∙ (λ i. set (c.set_kind.ensures i).words.image (2 * (first.stays.signals i) + s) c.args.value) in

@@ -1,5 +1,5 @@
 use Rattle.std.proofs.Common.{◌≡◌, ◌+◌, ◌*◌, length, sym, refl, ap, subst, arith}
-use Rattle.board.proofs.Writes.{only_words-refl, only_words-trans, only_words-reworded}
+use Rattle.board.proofs.Writes.{only_words-refl, only_words-trans, only_words-set}
 use Rattle.places.specs.Refill.{Reordered}
 use Rattle.places.proofs.Filling.{pasted_none, pasted_more, pasted_all}
 use Rattle.places.proofs.refill.fill_held.Goals as goal
@@ -18,7 +18,7 @@ loop-i-preserved g c =
           subst (Reordered b.signals b.words.image _) (sym (ap (λ x. x.words.image) c.write.ensures))
           (pasted_more b.signals b.words.image c.args.from c.args.held.now long c.loop-i.i (4 * l.signals + (c.args.from + c.loop-i.i)) _ l.words.image
           (omega arith) (omega (arith, room)) (ap (λ k. 4 * k + (c.args.from + c.loop-i.i)) c.loop-i.invariant.1.stays.signals) refl (c.loop-i.invariant.0 long room)),
-      only_words-trans b l c.write.new.self c.loop-i.invariant.1 (only_words-reworded l c.write.new.self _ c.write.ensures),
+      only_words-trans b l c.write.new.self c.loop-i.invariant.1 (only_words-set l c.write.new.self _ _ c.write.ensures),
     )
 
 pub returns : goal.returns

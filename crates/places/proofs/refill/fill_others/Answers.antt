@@ -1,6 +1,6 @@
 use Rattle.std.proofs.Common.{◌≡◌, suc, ◌+◌, ◌-◌, ◌*◌, ◌≤◌, length, sym, ap, ◌∙◌, subst, arith}
 use Rattle.board.specs.Layout.{word}
-use Rattle.board.proofs.Writes.{only_words-refl, only_words-trans, only_words-reworded}
+use Rattle.board.proofs.Writes.{only_words-refl, only_words-trans, only_words-set}
 use Rattle.places.specs.Refill.{Range, Walked, flagged}
 use Rattle.places.proofs.Counting.{told-flagged}
 use Rattle.places.proofs.Filling.{walked_none, walked_holds, walked_writes}
@@ -59,7 +59,7 @@ loop-place-preserved g c =
             omega (arith, c.loop-place.invariant.1),
             omega (arith, c.loop-place-test.true, c.end-place-end.ensures.few),
             c.loop-place.invariant.3,
-            only_words-trans b l w.write.new.self c.loop-place.invariant.4 (only_words-reworded l w.write.new.self _ w.write.ensures),
+            only_words-trans b l w.write.new.self c.loop-place.invariant.4 (only_words-set l w.write.new.self _ _ w.write.ensures),
           )
     ]
 

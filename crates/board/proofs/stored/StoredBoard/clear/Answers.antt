@@ -1,7 +1,7 @@
 use Rattle.std.proofs.Common.{length, refl, ap, ◌∙◌, arith}
 use Rattle.std.proofs.lemmas.List.{length-set}
 use Rattle.board.specs.Layout.{word}
-use Rattle.board.proofs.Writes.{only_words-refl, only_words-trans, only_words-reworded, zeros_more, zeros_all}
+use Rattle.board.proofs.Writes.{only_words-refl, only_words-trans, only_words-set, zeros_more, zeros_all}
 use Rattle.board.proofs.stored.StoredBoard.clear.Goals as goal
 
 pub loop-at-init : goal.loop-at-init
@@ -11,7 +11,7 @@ pub loop-at-preserved : goal.loop-at-preserved
 loop-at-preserved g c =
     let l = c.loop-at.self in
     let image = ap (λ b. b.words.image) c.put.ensures in (
-      only_words-trans c.args.self.now l c.put.new.self c.loop-at.invariant.0 (only_words-reworded l c.put.new.self _ c.put.ensures),
+      only_words-trans c.args.self.now l c.put.new.self c.loop-at.invariant.0 (only_words-set l c.put.new.self _ _ c.put.ensures),
       ap length image ∙ length-set l.words.image c.loop-at.at 0 ∙ c.loop-at.invariant.1,
       λ k lt. ap (λ ws. word ws k) image ∙ zeros_more l.words.image c.loop-at.at c.loop-at.invariant.2 k lt,
     )

@@ -1,7 +1,8 @@
-use Rattle.netlist.specs.declared.edit.Edit.TheVariants.{Delete}
-use Rattle.editor.proofs.Calling.{edited_early}
+use Rattle.editor.proofs.Calling.{called_early, reached_early}
 use Rattle.editor.proofs.editor.Editor.delete.Goals as goal
 
+pub invariant_of-self-2 : goal.invariant_of-self-2
+invariant_of-self-2 g c = reached_early _ _ _ _ c.self.invariant c.in_ok-serves.ensures c.delete_signal.ensures
+
 pub returns : goal.returns
-returns g c =
-    edited_early c.args.self.now _ (Delete c.args.signal) c.delete_signal.result c.in_ok-serves.ensures c.delete_signal.ensures c.clear.ensures
+returns g c = called_early _ _ _ _ _ _ _ c.self.view_is c.self.invariant c.in_ok-serves.ensures c.delete_signal.ensures c.clear.ensures

@@ -1,7 +1,8 @@
-use Rattle.netlist.specs.declared.edit.Edit.TheVariants.{Input}
-use Rattle.editor.proofs.Calling.{edited_early}
+use Rattle.editor.proofs.Calling.{called_early, reached_early}
 use Rattle.editor.proofs.editor.Editor.input.Goals as goal
 
+pub invariant_of-self-2 : goal.invariant_of-self-2
+invariant_of-self-2 g c = reached_early _ _ _ _ c.self.invariant c.in_ok-serves.ensures c.add_input.ensures
+
 pub returns : goal.returns
-returns g c =
-    edited_early c.args.self.now _ (Input c.args.signal) c.add_input.result c.in_ok-serves.ensures c.add_input.ensures c.clear.ensures
+returns g c = called_early _ _ _ _ _ _ _ c.self.view_is c.self.invariant c.in_ok-serves.ensures c.add_input.ensures c.clear.ensures
