@@ -1,10 +1,10 @@
 -- What the calls of the inverse log make of its meaning.
 use Rattle.std.proofs.Common.{◌≡◌, ℕ, suc, ◌+◌, ◌-◌, ◌*◌, ◌<◌, ◌≤◌, List, [], ◌∷◌, ◌++◌, length, get_or, take, drop, set, Ok, sym, refl, ap, ◌∙◌, subst, mul-le-mul_left, mul-one, add-one, arith}
 use lib.Seq.{take-set-lt}
-use Rattle.std.proofs.lemmas.List.{get_or-take, get_or_append_left, get_or_at, length-append, length-take-le, set-set, set-get_or, drop-set-lt, drop-drop}
+use Rattle.std.proofs.lemmas.List.{get_or-take, get_or_append_left, get_or_at, length-append, length-take-le, length-set, set-set, set-get_or, drop-set-lt, drop-drop}
 use Rattle.arrayvec.specs.ArrayVec.{ArrayVec}
 use Rattle.words.specs.declared.inverse_log.InverseLog.{InverseLog}
-use Rattle.words.specs.Meaning.{Sets, Opens, Keeps, Drops, levels, newest}
+use Rattle.words.specs.Meaning.{Sets, Opens, Keeps, Drops, levels, newest, size}
 use Rattle.words.specs.InverseLog.{undo, pile, log_meaning, log_lent, Notes}
 use Rattle.words.specs.LogSteps.{meaning_of, Stays}
 use Rattle.words.proofs.Blocks.{cell-rest}
@@ -123,6 +123,7 @@ module _ (log : InverseLog) where
         omega (arith, image-size),
         same_meaning refl image
             (pile-rest ws' (set ws' at word) n noted' k (drop-set-lt n ws' at word below) (take n (set ws' at word)) ∙ ap (pile ws' n noted' k) image ∙ saved),
+        ap length image ∙ length-set (take n ws) at word,
       )
 
   -- ---- open
@@ -189,3 +190,20 @@ module _ (ws : List ℕ) (n d level : ℕ) (noted noted' : List ℕ) (some : lev
       same_meaning refl refl
       (ap (λ m. pile ws n noted' m (take n ws)) depth-fewer
       ∙ pile-same ws ws n noted noted' level (λ other less image. ap (λ m. undo ws n other m image) (counts-fewer other less)) (take n ws))
+
+-- ---- set, once the former value is noted
+
+pub set_told : (before after : InverseLog) (at word : ℕ) → at < before.shape.size
+    → take before.shape.size after.words.now ≡ take before.shape.size before.words.now
+    → ((w : ℕ) → pile after.words.now before.shape.size after.noted.items (length before.noted.items) (set (take before.shape.size before.words.now) at w)
+    ≡ pile before.words.now before.shape.size before.noted.items (length before.noted.items) (take before.shape.size before.words.now))
+    → Stays before after
+    → Sets (meaning_of before) (log_meaning (set after.words.now at word) after.shape.size after.shape.limit (length after.noted.items) after.noted.items) at word (Ok tt)
+set_told before after at word below image saved stays =
+    let told = sets before after.words.now after.noted.items at word below image (saved word) in
+    let ws = set after.words.now at word in
+    let same
+    : log_meaning ws after.shape.size after.shape.limit (length after.noted.items) after.noted.items
+    ≡ log_meaning ws before.shape.size before.shape.limit (length before.noted.items) after.noted.items =
+    λ i. log_meaning ws (stays.shape i).size (stays.shape i).limit (stays.depth i) after.noted.items in
+    (told.0, same ∙ told.1, ap size same ∙ told.2)

@@ -1,5 +1,5 @@
 -- What the calls of the snapshot make of its meaning.
-use Rattle.std.proofs.Common.{◌≡◌, ℕ, suc, ◌+◌, ◌*◌, ◌<◌, ◌≤◌, min, List, ◌∷◌, length, take, drop, set, Ok, sym, refl, ap, ◌∙◌, mul-le-mul_right, mul_comm, one-mul, add-one, arith}
+use Rattle.std.proofs.Common.{◌≡◌, ℕ, suc, ◌+◌, ◌*◌, ◌<◌, ◌≤◌, min, List, ◌∷◌, length, take, drop, set, Ok, sym, refl, ap, ◌∙◌, subst, mul-le-mul_right, mul_comm, one-mul, add-one, arith}
 use native.Mathlib.Nat.{zero-min, min-eq_left, min-eq_right, min-le_right}
 use lib.Seq.{paste, take-set-lt}
 use Rattle.std.proofs.lemmas.List.{length-take-le, length-drop, length-set, drop-set-lt}
@@ -70,11 +70,16 @@ module _ (ws : List ℕ) (n d : ℕ) where
       let same : width (length ws') n d ≡ wide = ap (λ l. width l n d) long in
       λ i. record { lender = lender; behind = (ap (λ m. drop (m * (d + 1)) ws') same ∙ behind) i }
 
-  pub sets : (k at w : ℕ) → at < wide → Sets (snapshot_meaning ws n d k) (snapshot_meaning (set ws at w) n d k) at w (Ok tt)
-  sets k at w below = (
-    omega (arith, image-size ws wide d fit),
-    shot_is (set ws at w) n d k wide (min k d) (ap (λ l. width l n d) (length-set ws at w)) refl ∙ set-image ws wide d fit (min k d) at w below,
-  )
+  sets : (k at w : ℕ) → at < wide → Sets (snapshot_meaning ws n d k) (snapshot_meaning (set ws at w) n d k) at w (Ok tt)
+  sets k at w below =
+      let told = shot_is (set ws at w) n d k wide (min k d) (ap (λ l. width l n d) (length-set ws at w)) refl ∙ set-image ws wide d fit (min k d) at w below in (
+        omega (arith, image-size ws wide d fit),
+        told,
+        ap size told ∙ length-set (take wide ws) at w,
+      )
+
+  pub set_told : (ws' : List ℕ) (k at w : ℕ) → at < wide → ws' ≡ set ws at w → Sets (snapshot_meaning ws n d k) (snapshot_meaning ws' n d k) at w (Ok tt)
+  set_told ws' k at w below is = subst (λ x. Sets (snapshot_meaning ws n d k) (snapshot_meaning x n d k) at w (Ok tt)) (sym is) (sets k at w below)
 
   pub opens : (ws' : List ℕ) (k : ℕ) → k < d → ws' ≡ paste ws ((k + 1) * wide) ws wide → Opens (snapshot_meaning ws n d k) (snapshot_meaning ws' n d (k + 1)) (Ok tt)
   opens ws' k below copied =

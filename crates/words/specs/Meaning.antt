@@ -47,9 +47,9 @@ abbrev pub Tells : Meaning → ℕ → Option ℕ → Type 0
 Tells m at None = size m ≤ at
 Tells m at (Some w) = (at < size m) × (w ≡ slice_index m.image at)
 
--- refused with 2 exactly when the number is not below N
+-- refused with 2 exactly when the number is not below N; N stays
 abbrev pub Sets : Meaning → Meaning → ℕ → ℕ → Result (Unit {0}) StoreRefusal → Type 0
-Sets m m' at w (Ok _) = (at < size m) × (m' ≡ wrote m at w)
+Sets m m' at w (Ok _) = (at < size m) × (m' ≡ wrote m at w) × (size m' ≡ size m)
 Sets m m' at w (Err e) = (number e ≡ 2) × (size m ≤ at) × (m' ≡ m)
 
 -- refused with 3 exactly when D levels are open

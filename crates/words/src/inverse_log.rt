@@ -9,27 +9,9 @@ ghost use Rattle.words.specs.InverseLog.{log_meaning, log_lent, word_at, value_a
 
 use crate::memory;
 use crate::memory::OverMemory;
+use crate::shape::Shape;
 use crate::store::{Store, StoreRefusal};
 use arrayvec::ArrayVec;
-
-// N and D.
-#[derive(Clone, Copy)]
-struct Shape {
-    size: usize,
-    limit: usize,
-    ghost few: { size ≤ 65536 },
-    ghost low: { limit ≤ 8 },
-}
-
-impl Shape {
-    // Where word `at` of a block lies.
-    fn cell(self, block: usize, at: usize) -> usize
-        requires { (block ≤ 26) × (at < self.size) }
-        ensures { result ≡ block * self.size + at }
-    {
-        block * self.size + at
-    }
-}
 
 #[derive(Drop)]
 pub struct InverseLog<'a> {
@@ -117,6 +99,16 @@ impl InverseLog<'_> {
         };
         let former = self.words[at];
         self.note(level, at, former);
+    }
+
+    // Writes one word of the present image.
+    fn write(&mut self, at: usize, word: u32)
+        requires { at < self.old.shape.size }
+        ensures words { self.new.words.now ≡ slice_set self.old.words.now at word }
+        ensures noted { self.new.noted ≡ self.old.noted }
+        ensures stays { Stays self.old self.new }
+    {
+        self.words[at] = word;
     }
 
     // Writes back what a level has noted, the newest first.
@@ -218,7 +210,7 @@ impl Store for InverseLog<'_> {
             return Err(StoreRefusal::NoSuchWord);
         }
         self.remember(at);
-        self.words[at] = word;
+        self.write(at, word);
         Ok(())
     }
 

@@ -3,6 +3,7 @@
 
 mod inverse_log;
 mod memory;
+mod shape;
 mod snapshot;
 mod store;
 

@@ -1,5 +1,6 @@
 // The store that copies the whole image for each level. Its memory is cut into parts of N words: the present image, and one for each level.
-// It has no invariant, since it lends its memory on: sizes are held below what the memory has room for wherever they are used.
+// It has no invariant that speaks of its memory, since it lends that on: sizes are held below what the memory has room for wherever they are
+// used.
 ghost use Rattle.std.specs.Prelude.{◌≡◌, ◌+◌, ◌*◌, ◌<◌, ◌≤◌, min, ◌⊎◌, length, drop};
 ghost use Rattle.std.proofs.Math.Seq.{paste};
 ghost use Rattle.words.specs.Making.{Tests, Makes};
@@ -7,13 +8,13 @@ ghost use Rattle.words.specs.Snapshot.{width, snapshot_meaning, snapshot_lent};
 
 use crate::memory;
 use crate::memory::OverMemory;
+use crate::shape::Shape;
 use crate::store::{Store, StoreRefusal};
 
 #[derive(Drop)]
 pub struct Snapshot<'a> {
     words: &'a mut [u32],
-    size: usize,
-    limit: u8,
+    shape: Shape,
     depth: u8,
 }
 
@@ -27,7 +28,7 @@ impl<'a> Snapshot<'a> {
 
     // The store of `size` words, all 0, or where the test refuses the one of no words that leaves the memory alone.
     pub fn new(words: &'a mut [u32], size: usize, limit: usize) -> Snapshot<'a>
-        ensures makes { Makes size limit (limit + 1) (length words.old) (snapshot_meaning result.words.now result.size result.limit result.depth) words.old result.words.now }
+        ensures makes { Makes size limit (limit + 1) (length words.old) (snapshot_meaning result.words.now result.shape.size result.shape.limit result.depth) words.old result.words.now }
         ensures lender { result.words.ghost_name ≡ words.entry.ghost_name }
     {
         memory::make(words, size, limit)
@@ -35,17 +36,18 @@ impl<'a> Snapshot<'a> {
 
     // N, never more than there is memory for
     fn part_size(&self) -> usize
-        ensures { result ≡ width (length self.now.words.now) self.now.size self.now.limit }
+        ensures { result ≡ width (length self.now.words.now) self.now.shape.size self.now.shape.limit }
     {
-        self.size
-            .min(self.words.len() / (usize::from(self.limit) + 1))
+        self.shape
+            .size
+            .min(self.words.len() / (self.shape.limit + 1))
     }
 
     // how many levels are open, never more than the limit
     fn open_levels(&self) -> u8
-        ensures { result ≡ min self.now.depth self.now.limit }
+        ensures { result ≡ min self.now.depth self.now.shape.limit }
     {
-        self.depth.min(self.limit)
+        self.depth.min(self.shape.limit as u8)
     }
 }
 
@@ -95,24 +97,23 @@ impl<'a> OverMemory<'a> for Snapshot<'a> {
     fn over(words: &'a mut [u32], size: usize, limit: usize) -> Snapshot<'a> {
         Snapshot {
             words,
-            size,
-            limit: limit as u8,
+            shape: Shape { size, limit },
             depth: 0,
         }
     }
 }
 
 impl Store for Snapshot<'_> {
-    ghost model = { λ s. snapshot_meaning s.words.now s.size s.limit s.depth };
+    ghost model = { λ s. snapshot_meaning s.words.now s.shape.size s.shape.limit s.depth };
 
-    ghost lent = { λ s. snapshot_lent s.words.ghost_name s.words.now s.size s.limit };
+    ghost lent = { λ s. snapshot_lent s.words.ghost_name s.words.now s.shape.size s.shape.limit };
 
     fn size(&self) -> usize {
         self.part_size()
     }
 
     fn limit(&self) -> usize {
-        usize::from(self.limit)
+        self.shape.limit
     }
 
     fn levels(&self) -> usize {
@@ -132,7 +133,7 @@ impl Store for Snapshot<'_> {
     }
 
     fn open_level(&mut self) -> Result<(), StoreRefusal> {
-        if self.depth >= self.limit {
+        if usize::from(self.depth) >= self.shape.limit {
             return Err(StoreRefusal::NoLevelLeft);
         }
         let size = self.part_size();

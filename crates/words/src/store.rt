@@ -1,5 +1,5 @@
 // What every store of words owes, said over its meaning, so that code above is proved once for all of them.
-ghost use Rattle.std.specs.Prelude.{◌≡◌};
+ghost use Rattle.std.specs.Prelude.{◌≡◌, ◌≤◌};
 ghost use Rattle.words.specs.Meaning.{Meaning, Lent, Tells, Sets, Opens, Keeps, Drops, size as size_of, levels as levels_of};
 ghost use Rattle.words.specs.Refusals.{number as number_of};
 
@@ -33,11 +33,13 @@ pub trait Store {
 
     // N
     fn size(&self) -> usize
-        ensures { result ≡ size_of (model self.now) };
+        ensures size { result ≡ size_of (model self.now) }
+        ensures few { result ≤ 65536 };
 
     // D
     fn limit(&self) -> usize
-        ensures { result ≡ (model self.now).limit };
+        ensures limit { result ≡ (model self.now).limit }
+        ensures range { (2 ≤ result) × (result ≤ 8) };
 
     // how many levels are open
     fn levels(&self) -> usize

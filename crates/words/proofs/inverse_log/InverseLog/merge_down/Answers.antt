@@ -1,5 +1,5 @@
 use Rattle.std.proofs.Common.{◌-◌, get_or, ap, ◌∙◌, arith}
-use Rattle.words.specs.declared.inverse_log.Shape.{Shape}
+use Rattle.words.specs.declared.shape.Shape.{Shape}
 use Rattle.words.specs.InverseLog.{word_at, value_at}
 use Rattle.words.proofs.Logs.{stays_then}
 use Rattle.words.proofs.Steps.{handed_more}

@@ -1,6 +1,6 @@
 use Rattle.std.proofs.Common.{◌≡◌, ◌+◌, ◌-◌, ◌<◌, length, get_or, take, ap, subst, arith}
 use Rattle.arrayvec.specs.ArrayVec.{ArrayVec}
-use Rattle.words.specs.declared.inverse_log.Shape.{Shape}
+use Rattle.words.specs.declared.shape.Shape.{Shape}
 use Rattle.words.specs.InverseLog.{undo}
 use Rattle.words.proofs.Logs.{stays_rest}
 use Rattle.words.proofs.Steps.{rest_taken, taken_more}

@@ -5,4 +5,4 @@ use Rattle.words.proofs.snapshot.SnapshotStore.keep_level.Goals as goal
 pub returns-clause-keeps : goal.returns-clause-keeps
 returns-clause-keeps c =
     let self = c.args.self.now in
-    keeps self.words.now self.size self.limit self.depth (c.open_levels-depth.result - 1) (omega arith)
+    keeps self.words.now self.shape.size self.shape.limit self.depth (c.open_levels-depth.result - 1) (omega arith)
