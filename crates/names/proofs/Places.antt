@@ -140,4 +140,4 @@ module _ (ns : List (List ℕ)) (w : List ℕ) where
 
     pub adds-push : (m : ℕ) (new : List (List ℕ)) → length ns < m → (r : Result (Unit {0}) NameFault) → MatchResult r (λ _. new ≡ ns ++ w ∷ []) (λ f. (f ≡ Memory) × (new ≡ ns)) → Adds m ns new w r
     adds-push m new h (Ok x) is = (ap (below m) number-new ∙ lt-ltb (length ns) m h, is ∙ sym (added_new e))
-    adds-push m new h (Err f) is = subst (λ g. Adds m ns new w (Err g)) (sym is.0) is.1
+    adds-push m new h (Err f) is = subst (λ g. Adds m ns new w (Err g)) (sym is.0) (record { new = e; room = h }, is.1)

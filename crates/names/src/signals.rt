@@ -42,7 +42,8 @@ impl Signals {
     }
 
     pub(crate) fn len(&self) -> usize
-        ensures { result ≡ length self.now }
+        ensures len { result ≡ length self.now }
+        ensures apart { Apart self.now }
     {
         self.names.len()
     }
@@ -85,7 +86,7 @@ impl Signals {
     }
 
     // All names but the first `count` are taken back.
-    fn truncate(&mut self, count: usize)
+    pub(crate) fn truncate(&mut self, count: usize)
         ensures { self.new ≡ take count self.old }
     {
         while self.len() > count {

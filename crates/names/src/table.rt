@@ -1,8 +1,8 @@
 // The name table.
-ghost use Rattle.std.specs.Prelude.{◌≡◌, ◌≤◌, [], length, IfOk, Some, codes, MatchOption, MatchResult};
+ghost use Rattle.std.specs.Prelude.{◌≡◌, ◌≤◌, [], length, take, IfOk, Some, codes, MatchOption, MatchResult};
 ghost use Rattle.std.specs.List.{slice_get};
 ghost use Rattle.std.specs.Option.{option_map};
-ghost use Rattle.names.specs.Names.{position, Stays, spellings};
+ghost use Rattle.names.specs.Names.{position, Apart, Stays, spellings};
 ghost use Rattle.names.specs.Numbers.{Enters};
 
 use crate::faults::NameFault;
@@ -28,9 +28,10 @@ impl NameTable {
         })
     }
 
-    // How many signals have names.
+    // How many signals have names; each name has its place as its number, so that no name stands twice.
     pub fn len(&self) -> usize
-        ensures { result ≡ length self.now.signals }
+        ensures len { result ≡ length self.now.signals }
+        ensures apart { Apart self.now.signals }
     {
         self.signals.len()
     }
@@ -69,8 +70,18 @@ impl NameTable {
     pub fn enter(&mut self, words: &[Word], room: u32) -> Result<(), NameFault>
         ensures names { Enters room self.old.signals self.new.signals (spellings words.now) result }
         ensures stay { Stays self.old.signals self.new.signals }
+        ensures front { take (length self.old.signals) self.new.signals ≡ self.old.signals }
         ensures model { self.new.model.items ≡ self.old.model.items }
     {
         self.signals.enter(words, room)
+    }
+
+    // All names but the first `count` are taken back. What `len` told before `enter` takes back the line's alone: so the two test whether a line has
+    // room, at the cost of its words. To count its new names without entering them would need memory too, or a pass over the line for each word.
+    pub fn truncate(&mut self, count: usize)
+        ensures names { self.new.signals ≡ take count self.old.signals }
+        ensures model { self.new.model.items ≡ self.old.model.items }
+    {
+        self.signals.truncate(count);
     }
 }

@@ -16,6 +16,10 @@ bits_fit k n none =
 pub one_shl : (r : ℕ) → r ≤ 16 → 1 * 2 ^ r % 2 ^ 32 ≡ 2 ^ r
 one_shl r few = let p : 2 ^ r ≤ 2 ^ 16 = pow_mono few in omega arith
 
+-- A gate with at most four pins has at most 16 minterms.
+pub few_rows : (pins : ℕ) → pins ≤ 4 → 1 * 2 ^ pins % 2 ^ 32 ≤ 16
+few_rows pins few = let p : 2 ^ pins ≤ 2 ^ 4 = pow_mono few in omega arith
+
 -- What a shift by any number of places leaves shows the bit.
 pub bit_shifted : (n i r : ℕ) → n < 2 ^ 32 → r ≡ cond (ltb i 32) (n / 2 ^ i) 0 → r % 2 ≡ bit n i
 bit_shifted n i r fits is =

@@ -1,5 +1,5 @@
 -- A table written line by line into a cover.
-use Rattle.std.proofs.Common.{◌≡◌, ℕ, ◌^◌, ◌≤◌, Bool, nat_eq, None, Option, List, arith, [], ◌∷◌, ◌++◌, map, take, codes, sym, refl, ap, ◌∙◌, subst}
+use Rattle.std.proofs.Common.{◌≡◌, ℕ, ◌^◌, ◌≤◌, Bool, nat_eq, None, Option, List, arith, [], ◌∷◌, ◌++◌, map, take, codes, sym, refl, ap, ◌∙◌, subst, ⊎_elim}
 use Rattle.std.proofs.lemmas.List.FromFn.{take-map-range_with_len}
 use Rattle.std.proofs.lemmas.List.{map-append, map-id}
 use denote.Param.Members.{Mut}
@@ -15,7 +15,6 @@ use Rattle.std.specs.declared.ops.Range.{Range}
 use Rattle.table.specs.declared.shape.Cover.{Cover}
 use Rattle.table.specs.declared.shape.Table.{Table}
 use Rattle.table.specs.declared.fault.CoverFault.{CoverFault}
-use Rattle.table.specs.declared.fault.CoverFault.TheVariants.{Malformed, BothWays}
 use Rattle.table.specs.Bit.{bit}
 use Rattle.table.specs.Line.{Line, Differs, Means, Gives}
 use Rattle.table.specs.Cover.{Read, Refuses}
@@ -40,8 +39,8 @@ never_differs pins one [] differs = differs
 never_differs pins one (first ∷ rest) differs = differs refl
 
 never_refused : (pins one : ℕ) (ones : List ℕ) (fault : CoverFault) → Refuses pins (map (line_at pins) ones) (line_at pins one) fault → ⊥
-never_refused pins one ones Malformed refused = refused (line-formed pins one)
-never_refused pins one ones BothWays refused = never_differs pins one ones refused.1
+never_refused pins one ones fault refused =
+    ⊎_elim (λ p. p.1 (line-formed pins one)) (λ p. never_differs pins one ones p.2) refused
 
 -- A filter of the minterms by the table's value, run to its end, yields the 1-minterms.
 pub ones_yielded :

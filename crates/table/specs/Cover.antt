@@ -1,10 +1,10 @@
-use Rattle.std.specs.Prelude.{◌≡◌, ℕ, ◌<◌, List, [], ◌∷◌, ◌++◌, length, Some, None, Ok, Err, codes, Option, Result}
+use Rattle.std.specs.Prelude.{◌≡◌, ℕ, ◌<◌, ◌⊎◌, List, [], ◌∷◌, ◌++◌, length, Some, None, Ok, Err, codes, Option, Result}
 use Rattle.std.specs.List.{AllByRecursion}
 use Rattle.table.specs.declared.shape.Cover.{Cover}
 use Rattle.table.specs.declared.shape.Output.{Output}
 use Rattle.table.specs.declared.shape.Output.TheVariants.{Zero, One}
 use Rattle.table.specs.declared.fault.CoverFault.{CoverFault}
-use Rattle.table.specs.declared.fault.CoverFault.TheVariants.{Malformed, BothWays}
+use Rattle.table.specs.Fault.{cover_number}
 use Rattle.table.specs.Line.{Line, Holds, Formed, Differs, Listed}
 
 -- The output as it is written.
@@ -27,10 +27,11 @@ pub record Known (pins : ℕ) (output : Option Output) (listed : ℕ) (lines : L
 abbrev pub Read : List Line → Cover → Type 0
 Read lines cover = Known cover.listed.pins cover.output cover.listed.bits lines
 
--- Why a line cannot follow these lines. A malformed line is called that whatever its output.
+-- Why a line cannot follow these lines: 35 if it is malformed, whatever its output, and 37 if it is well formed and ends otherwise.
 abbrev pub Refuses : ℕ → List Line → Line → CoverFault → Type 0
-Refuses pins lines line Malformed = Formed pins line → ⊥
-Refuses pins lines line BothWays = Formed pins line × Differs lines line
+Refuses pins lines line fault =
+    ((cover_number fault ≡ 35) × (Formed pins line → ⊥))
+    ⊎ ((cover_number fault ≡ 37) × Formed pins line × Differs lines line)
 
 -- One line more after these lines: it is taken where it is well formed and ends as they do, and else refused.
 abbrev pub Takes : List Line → Line → Cover → Result (Unit {0}) CoverFault → Type 0

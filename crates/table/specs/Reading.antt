@@ -7,6 +7,7 @@ use Rattle.table.specs.declared.fault.ReadFault.{ReadFault}
 use Rattle.table.specs.declared.fault.ReadFault.TheVariants.{OfTable, OfLine}
 use Rattle.table.specs.Line.{Line, IsCover, Gives}
 use Rattle.table.specs.Cover.{Refuses}
+use Rattle.table.specs.Fault.{table_number}
 use Rattle.table.specs.Table.{IsTable}
 use Rattle.table.specs.Written.{lines_of}
 
@@ -22,10 +23,11 @@ pub record Stops (pins : ℕ) (lines : List Line) (fault : CoverFault) : Type 0 
   pub cover : IsCover pins before
   pub refused : Refuses pins before line fault
 
--- Lines that are a cover are read as the table that they mean; of any others the first that cannot follow is refused.
+-- Lines that are a cover are read as the table that they mean. Over four pins are refused (13), and else the first line that
+-- cannot follow those before it (35, 37).
 abbrev pub Reads : ℕ → List Line → Result Table ReadFault → Type 0
 Reads pins lines (Ok table) = (pins ≤ 4) × (table.pins ≡ pins) × Gives pins lines table.bits
-Reads pins lines (Err (OfTable fault)) = 4 < pins
+Reads pins lines (Err (OfTable fault)) = (table_number fault ≡ 13) × (4 < pins)
 Reads pins lines (Err (OfLine fault)) = (pins ≤ 4) × Stops pins lines fault
 
 -- The lines of a table are read as that table.

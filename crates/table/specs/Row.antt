@@ -5,14 +5,14 @@ use Rattle.table.specs.declared.shape.Output.{Output}
 use Rattle.table.specs.declared.shape.Output.TheVariants.{Zero, One}
 use Rattle.table.specs.declared.cover.Row.{Row}
 use Rattle.table.specs.declared.fault.CoverFault.{CoverFault}
-use Rattle.table.specs.declared.fault.CoverFault.TheVariants.{Malformed, BothWays}
+use Rattle.table.specs.Fault.{cover_number}
 use Rattle.table.specs.Line.{Line, Holds, Covers, Formed, Differs}
 use Rattle.table.specs.Cover.{Read, written}
 
--- An output is one byte, 0 or 1.
+-- An output is one character, 0 or 1; any other is malformed (35).
 abbrev pub Ending : List ℕ → Result Output CoverFault → Type 0
 Ending output (Ok how) = output ≡ written how
-Ending output (Err fault) = (fault ≡ Malformed) × ((how : Output) → output ≢ written how)
+Ending output (Err fault) = (cover_number fault ≡ 35) × ((how : Output) → output ≢ written how)
 
 -- What is kept of a line of a gate with so many pins.
 pub record Stands (pins : ℕ) (line : Line) (row : Row) : Type 0 where
@@ -23,12 +23,12 @@ pub record Stands (pins : ℕ) (line : Line) (row : Row) : Type 0 where
 
 abbrev pub Parses : ℕ → Line → Result Row CoverFault → Type 0
 Parses pins line (Ok row) = Stands pins line row
-Parses pins line (Err fault) = (fault ≡ Malformed) × (Formed pins line → ⊥)
+Parses pins line (Err fault) = (cover_number fault ≡ 35) × (Formed pins line → ⊥)
 
--- A well-formed line after these lines of a cover.
+-- A well-formed line after these lines of a cover: 37 if it ends otherwise.
 abbrev pub Joins : List Line → Line → Result Cover CoverFault → Type 0
 Joins lines line (Ok after) = (Differs lines line → ⊥) × Read (lines ++ line ∷ []) after
-Joins lines line (Err fault) = (fault ≡ BothWays) × Differs lines line
+Joins lines line (Err fault) = (cover_number fault ≡ 37) × Differs lines line
 
 -- The value is 1 where the lines end in 1 and one covers the minterm, or they end in 0 and none does.
 abbrev pub IsOne : Option Output → Bool → Type 0

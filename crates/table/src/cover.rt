@@ -1,6 +1,7 @@
 ghost use Rattle.std.specs.Prelude.{◌≡◌, ℕ, ◌^◌, ◌<◌, ◌≤◌, ◌⊎◌, List, [], length, IfOk, Some, None, Decides, MatchBool, MatchResult, OnErr, ◌≢◌, ◌==◌};
 ghost use Rattle.table.specs.Bit.{bit};
 ghost use Rattle.table.specs.Cover.{Read, Takes};
+ghost use Rattle.table.specs.Fault.{table_number};
 ghost use Rattle.table.specs.Row.{Ending, IsOne, Joins, Parses, Stands};
 ghost use Rattle.table.specs.Line.{Characters, Covers, Gives, Line};
 ghost use Rattle.table.specs.Reading.{line_of};
@@ -9,11 +10,11 @@ use crate::fault::{CoverFault, TableFault};
 use crate::shape::{Cover, CoverLine, Output, Table};
 use crate::truth::rows;
 
-/// Whether each character of a plane is 0, 1 or -.
-fn formed(plane: &[u8]) -> bool
-    ensures { Decides result (Characters plane.now) }
+/// Whether a plane has a character for each pin, and each is 0, 1 or -.
+fn formed(plane: &[u8], pins: u32) -> bool
+    ensures { Decides result ((length plane.now ≡ pins) × Characters plane.now) }
 {
-    plane.iter().all(|b| matches!(*b as char, '0' | '1' | '-'))
+    plane.len() == pins as usize && plane.iter().all(|b| matches!(*b as char, '0' | '1' | '-'))
 }
 
 /// Whether a plane of at most four characters covers a minterm.
@@ -57,9 +58,12 @@ impl TryFrom<&[u8]> for Output {
     ghost try_from_gives = { λ output r. Ending output.now r };
 
     fn try_from(output: &[u8]) -> Result<Output, CoverFault> {
-        match output {
-            b"0" => Ok(Output::Zero),
-            b"1" => Ok(Output::One),
+        let [character] = output else {
+            return Err(CoverFault::Malformed);
+        };
+        match *character as char {
+            '0' => Ok(Output::Zero),
+            '1' => Ok(Output::One),
             _ => Err(CoverFault::Malformed),
         }
     }
@@ -73,9 +77,11 @@ pub(crate) struct Row {
 }
 
 impl Cover {
-    /// No lines yet, of a gate with so many pins.
+    /// No lines yet, of a gate with so many pins; refused (13) over four.
     pub fn new(pins: u32) -> Result<Cover, TableFault>
-        ensures { MatchResult result (λ cover. (cover.listed.pins ≡ pins) × Read [] cover) (λ _. 4 < pins) }
+        ensures { MatchResult result
+            (λ cover. (cover.listed.pins ≡ pins) × Read [] cover)
+            (λ fault. (table_number fault ≡ 13) × (4 < pins)) }
     {
         Ok(Cover {
             output: None,
@@ -92,7 +98,9 @@ impl Cover {
 
     /// Whether a line that ends so may follow.
     fn allows(self, output: Output) -> bool
-        ensures { MatchBool result ((self.output ≡ None) ⊎ (self.output ≡ Some output)) ((first : Output) × (self.output ≡ Some first) × (first ≢ output)) }
+        ensures { MatchBool result
+            ((self.output ≡ None) ⊎ (self.output ≡ Some output))
+            ((first : Output) × (self.output ≡ Some first) × (first ≢ output)) }
     {
         self.output.is_none_or(|first| first == output)
     }
@@ -101,7 +109,7 @@ impl Cover {
     fn row(self, line: CoverLine) -> Result<Row, CoverFault>
         ensures { Parses self.listed.pins (line_of line.entry) result }
     {
-        if line.plane.len() != self.listed.pins as usize || !formed(line.plane) {
+        if !formed(line.plane, self.listed.pins) {
             return Err(CoverFault::Malformed);
         }
         Ok(Row {
@@ -114,7 +122,8 @@ impl Cover {
     fn with(self, row: Row) -> Result<Cover, CoverFault>
         requires { row.covered.pins ≡ self.listed.pins }
         ensures same { IfOk result (λ after. after.listed.pins ≡ self.listed.pins) }
-        ensures joins { (lines : List Line) (line : Line) → Read lines self → Stands self.listed.pins line row → Joins lines line result }
+        ensures joins { (lines : List Line) (line : Line)
+            → Read lines self → Stands self.listed.pins line row → Joins lines line result }
     {
         if !self.allows(row.output) {
             return Err(CoverFault::BothWays);
@@ -131,7 +140,8 @@ impl Cover {
     /// One line more. A refused line leaves the cover as it was.
     pub fn line(&mut self, line: CoverLine) -> Result<(), CoverFault>
         ensures same { (self.new.listed.pins ≡ self.old.listed.pins) × (OnErr result (self.new ≡ self.old)) }
-        ensures takes { (lines : List Line) → Read lines self.old → Takes lines (line_of line.entry) self.new result }
+        ensures takes { (lines : List Line)
+            → Read lines self.old → Takes lines (line_of line.entry) self.new result }
     {
         *self = self.with(self.row(line)?)?;
         Ok(())

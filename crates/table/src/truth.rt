@@ -1,12 +1,13 @@
 ghost use Rattle.std.specs.Prelude.{◌≡◌, ◌^◌, ◌≤◌, MatchResult, ◌==◌};
 ghost use Rattle.table.specs.Bit.{bit};
+ghost use Rattle.table.specs.Fault.{table_number};
 ghost use Rattle.table.specs.Table.{IsTable};
 
 use crate::fault::TableFault;
 use crate::shape::Table;
 
 /// How many minterms a gate with `pins` pins has.
-#[tactic(auto, using(crate::proofs::Bit::one_shl))]
+#[tactic(auto, using(crate::proofs::Bit::one_shl, crate::proofs::Bit::few_rows))]
 pub(crate) fn rows(pins: u32) -> u32
     requires { pins ≤ 4 }
     ensures value { result ≡ 2 ^ pins }
@@ -24,10 +25,12 @@ pub(crate) fn bit_at(number: u32, i: u32) -> u32
 }
 
 impl Table {
-    /// The table of these two numbers, refused exactly when they are none.
+    /// The table of these two numbers, refused (13) exactly when they are none.
     #[tactic(auto, using(crate::proofs::Bit::one_shl))]
     pub fn new(pins: u32, bits: u32) -> Result<Table, TableFault>
-        ensures { MatchResult result (λ t. IsTable pins bits × (t.pins ≡ pins) × (t.bits ≡ bits)) (λ _. IsTable pins bits → ⊥) }
+        ensures { MatchResult result
+            (λ t. IsTable pins bits × (t.pins ≡ pins) × (t.bits ≡ bits))
+            (λ fault. (table_number fault ≡ 13) × (IsTable pins bits → ⊥)) }
     {
         if pins > 4 || bits >= 1 << rows(pins) {
             return Err(TableFault::Unfit);

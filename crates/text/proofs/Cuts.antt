@@ -5,11 +5,10 @@ use Rattle.std.proofs.lemmas.Bool.{cond-true, cond-false, cases_Bool, cases_lt}
 use Rattle.std.proofs.lemmas.List.{drop-drop, drop_all, length-take-le}
 use Rattle.text.specs.declared.faults.ReadFault.{ReadFault}
 use Rattle.text.specs.declared.faults.ReadFault.TheVariants.{Text, Memory}
-use Rattle.text.specs.declared.faults.TextFault.{TextFault}
 use Rattle.text.specs.Rules.{Rules}
 use Rattle.text.proofs.Marks.{mark_here, mark_later}
 use Rattle.text.specs.Words.{Part}
-use Rattle.text.specs.Lines.{shown, judged, Wordy, Ready, lines, begins, Item, holds, faulty, item, items, rest, first, Found, Gives}
+use Rattle.text.specs.Lines.{shown, judged, Wordy, Ready, lines, begins, Item, holds, faulty, Wrong, wrong_of, item, items, rest, first, Found, Gives}
 
 abbrev same_byte : ℕ → ℕ → Bool
 same_byte mark b = eqb b mark
@@ -23,6 +22,9 @@ shown_is (b ∷ bs) =
     (λ t.
     ap (λ j. take j (b ∷ bs)) (mark_later (same_byte 35) b bs t ∙ add-one _) ∙ ap (λ l. b ∷ l) (shown_is bs) ∙ sym (cond-false (eqb b 35) [] (b ∷ shown bs) t))
     (cases_Bool (eqb b 35))
+
+pub shown_cut : (n : ℕ) (bs : List ℕ) → n ≡ position_or_len (same_byte 35) bs → take n bs ≡ shown bs
+shown_cut n bs e = ap (λ j. take j bs) e ∙ shown_is bs
 
 -- the first line and what follows it
 abbrev Cut : List ℕ → List (List ℕ)
@@ -87,10 +89,10 @@ module _ (k : Rules) (n : ℕ) {text : List ℕ} {at m next : ℕ} {after raw : 
     gives_line (w ∷ ws) e h = sym same ∙ rest_more ∙ ap (λ j. item n j ++ rest k text next (n + 1)) e
 
     pub gives_fault : (e : ReadFault) → Found (judged k n at raw) n (Err e) → Gives old (rest k text at n) (Err e)
-    gives_fault (Text f) h = (same, ap first (sym same ∙ rest_more ∙ ap (λ j. item n j ++ rest k text next (n + 1)) h.0) ∙ ap (λ j. Some (faulty j f.fault)) (sym h.1))
+    gives_fault (Text f) h = (same, ap first (sym same ∙ rest_more ∙ ap (λ j. item n j ++ rest k text next (n + 1)) h.0) ∙ ap (λ j. Some (faulty j (wrong_of f))) (sym h.1))
     gives_fault Memory h = (same, subst Ready same (subst Ready (sym rest_more) (ready (judged k n at raw) h)))
       where
-        ready : (j : Result (List Part) TextFault) → Wordy j → Ready (item n j ++ rest k text next (n + 1))
+        ready : (j : Result (List Part) Wrong) → Wordy j → Ready (item n j ++ rest k text next (n + 1))
         ready (Ok []) w = absurd w
         ready (Ok (v ∷ vs)) w = tt
         ready (Err f) w = absurd w

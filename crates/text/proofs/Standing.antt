@@ -1,13 +1,12 @@
 -- The words that are read stand in the text.
-use Rattle.std.proofs.Common.{◌≡◌, ℕ, ◌+◌, ◌<◌, Bool, true, false, cond, not, ◌||◌, eqb, leb, List, [], ◌∷◌, ◌++◌, length, get_or, take, drop, Ok, sym, refl, ap, ◌∙◌, subst, append_assoc, add-zero, zero-add, arith, length-drop, take-append-drop}
+use Rattle.std.proofs.Common.{◌≡◌, ℕ, ◌+◌, ◌<◌, min, Bool, true, false, cond, not, ◌||◌, eqb, leb, List, [], ◌∷◌, ◌++◌, length, get_or, take, drop, None, Ok, sym, refl, ap, ◌∙◌, subst, append_assoc, add-zero, zero-add, arith, length-drop, take-append-drop}
 use Rattle.std.specs.List.{AllByRecursion, list_all, position_or_len}
 use Rattle.std.proofs.ByRecursion.{all_kept_by}
 use Rattle.std.proofs.lemmas.List.{drop-drop, take_at, take_more, get_or-drop}
 use Rattle.std.proofs.lemmas.Bool.{cond_both, and_parts, and_from, not-true, not_from_false}
-use Rattle.text.specs.declared.faults.TextFault.TheVariants.{TooLong}
 use Rattle.text.specs.Rules.{Rules, separates, allowed, word_byte}
 use Rattle.text.specs.Words.{Part, part, onto, parts, is_word_lem, words, fits}
-use Rattle.text.specs.Lines.{shown, first_wrong, verdict, judged, lines, begins, Item, faulty, item, items, rest}
+use Rattle.text.specs.Lines.{shown, first_wrong, wrong, verdict, judged, lines, begins, Item, faulty, item, items, rest}
 use Rattle.text.specs.Standing.{newlines, Stands, AllStand, WordsStand}
 use Rattle.text.proofs.Cuts.{shown_is}
 
@@ -26,8 +25,12 @@ Free bs = list_all (λ b. not (eqb b 10)) bs ≡ true
 abbrev Placed : List ℕ → ℕ → Part → Type 0
 Placed text n p = (p.line ≡ n) × Begins text p.place p.bytes × Row text p.place n
 
-abbrev Clean : Part → Type 0
-Clean p = list_all word_byte p.bytes ≡ true
+-- each byte of a part passes
+abbrev Throughout : (ℕ → Bool) → Part → Type 0
+Throughout pass p = list_all pass p.bytes ≡ true
+
+abbrev uncommented : ℕ → Bool
+uncommented b = not (eqb b 35)
 
 -- the first part, if any, begins at `at`
 abbrev First : ℕ → List Part → Type 0
@@ -67,6 +70,11 @@ free_shown (b ∷ bs) h =
     let both = and_parts (not (eqb b 10)) (list_all (λ c. not (eqb c 10)) bs) h in
     cond_both (eqb b 35) [] (b ∷ shown bs) Free (λ _. refl) (λ _. and_from (not (eqb b 10)) (list_all (λ c. not (eqb c 10)) (shown bs)) both.0 (free_shown bs both.1))
 
+shown_uncommented : (bs : List ℕ) → list_all uncommented (shown bs) ≡ true
+shown_uncommented [] = refl
+shown_uncommented (b ∷ bs) =
+    cond_both (eqb b 35) [] (b ∷ shown bs) (λ l. list_all uncommented l ≡ true) (λ _. refl) (λ t. and_from (uncommented b) (list_all uncommented (shown bs)) (not_from_false (eqb b 35) t) (shown_uncommented bs))
+
 -- ---- the words of a line
 
 module _ (k : Rules) (text : List ℕ) (n : ℕ) where
@@ -91,44 +99,52 @@ module _ (k : Rules) (text : List ℕ) (n : ℕ) where
   words_placed at [] tail e row f = tt
   words_placed at (b ∷ bs) tail e row f = all_kept_by (λ p. is_word_lem k p.bytes) (Placed text n) (parts k n at (b ∷ bs)) (parts-placed at (b ∷ bs) tail e row f).1
 
-  spell : (at b : ℕ) (ps : List Part) → word_byte b ≡ true → AllByRecursion Clean ps → AllByRecursion Clean (onto at b ps)
-  spell at b [] w h = tt
-  spell at b (p ∷ ps) w h = (and_from (word_byte b) (list_all word_byte p.bytes) w h.0, h.1)
+  -- what each byte of a line but its separators passes, each byte of its words passes
+  module _ (given pass : ℕ → Bool) (passes : (b : ℕ) → separates k b ≡ false → given b ≡ true → pass b ≡ true) where
+    spell : (at b : ℕ) (ps : List Part) → pass b ≡ true → AllByRecursion (Throughout pass) ps → AllByRecursion (Throughout pass) (onto at b ps)
+    spell at b [] w h = tt
+    spell at b (p ∷ ps) w h = (and_from (pass b) (list_all pass p.bytes) w h.0, h.1)
 
-  parts_clean : (at : ℕ) (bs : List ℕ) → list_all (allowed k) bs ≡ true → AllByRecursion Clean (parts k n at bs)
-  parts_clean at [] e = (refl, tt)
-  parts_clean at (b ∷ bs) e =
-      let both = and_parts (allowed k b) (list_all (allowed k) bs) e in
-      let after = parts_clean (at + 1) bs both.1 in
-      cond_both (separates k b) (part at n [] ∷ parts k n (at + 1) bs) (onto at b (parts k n (at + 1) bs)) (AllByRecursion Clean)
-      (λ _. (refl, after))
-      (λ t. spell at b (parts k n (at + 1) bs) (sym (ap (λ x. x || word_byte b) t) ∙ both.0) after)
+    parts_pass : (at : ℕ) (bs : List ℕ) → list_all given bs ≡ true → AllByRecursion (Throughout pass) (parts k n at bs)
+    parts_pass at [] e = (refl, tt)
+    parts_pass at (b ∷ bs) e =
+        let both = and_parts (given b) (list_all given bs) e in
+        let after = parts_pass (at + 1) bs both.1 in
+        cond_both (separates k b) (part at n [] ∷ parts k n (at + 1) bs) (onto at b (parts k n (at + 1) bs)) (AllByRecursion (Throughout pass))
+        (λ _. (refl, after))
+        (λ t. spell at b (parts k n (at + 1) bs) (passes b t both.0) after)
 
-  words_clean : (at : ℕ) (bs : List ℕ) → list_all (allowed k) bs ≡ true → AllByRecursion Clean (words k n at bs)
-  words_clean at [] e = tt
-  words_clean at (b ∷ bs) e = all_kept_by (λ p. is_word_lem k p.bytes) Clean (parts k n at (b ∷ bs)) (parts_clean at (b ∷ bs) e)
+    words_pass : (at : ℕ) (bs : List ℕ) → list_all given bs ≡ true → AllByRecursion (Throughout pass) (words k n at bs)
+    words_pass at [] e = tt
+    words_pass at (b ∷ bs) e = all_kept_by (λ p. is_word_lem k p.bytes) (Throughout pass) (parts k n at (b ∷ bs)) (parts_pass at (b ∷ bs) e)
 
-  standing : (ws : List Part) → AllByRecursion (Placed text n) ws → AllByRecursion Clean ws → list_all (λ p. fits p.bytes) ws ≡ true → AllByRecursion (Stands text n) ws
-  standing [] h c e = tt
-  standing (w ∷ ws) h c e =
+  words_clean : (at : ℕ) (bs : List ℕ) → list_all (allowed k) bs ≡ true → AllByRecursion (Throughout word_byte) (words k n at bs)
+  words_clean = words_pass (allowed k) word_byte (λ b t e. sym (ap (λ x. x || word_byte b) t) ∙ e)
+
+  words_uncommented : (at : ℕ) (bs : List ℕ) → AllByRecursion (Throughout uncommented) (words k n at (shown bs))
+  words_uncommented at bs = words_pass uncommented uncommented (λ b t e. e) at (shown bs) (shown_uncommented bs)
+
+  standing : (ws : List Part) → AllByRecursion (Placed text n) ws → AllByRecursion (Throughout word_byte) ws → AllByRecursion (Throughout uncommented) ws → list_all (λ p. fits p.bytes) ws ≡ true → AllByRecursion (Stands text n) ws
+  standing [] h c u e = tt
+  standing (w ∷ ws) h c u e =
       let both = and_parts (fits w.bytes) (list_all (λ p. fits p.bytes) ws) e in
-      (record { line = h.0.0; counted = h.0.2; there = ap (take (length w.bytes)) h.0.1.1 ∙ take_at w.bytes h.0.1.0 (length w.bytes) refl; right = both.0; clean = c.0 }, standing ws h.1 c.1 both.1)
+      (record { line = h.0.0; counted = h.0.2; there = ap (take (length w.bytes)) h.0.1.1 ∙ take_at w.bytes h.0.1.0 (length w.bytes) refl; right = both.0; clean = c.0; uncommented = u.0 }, standing ws h.1 c.1 u.1 both.1)
 
   stand_words : (ws : List Part) (more : List Item) → AllByRecursion (Stands text n) ws → AllStand text more → AllStand text (item n (Ok ws) ++ more)
   stand_words [] more h m = m
   stand_words (w ∷ ws) more h m = (h, m)
 
-  stand_judged : (x y : Bool) (ws : List Part) (more : List Item) → list_all (λ p. fits p.bytes) ws ≡ y → AllByRecursion (Placed text n) ws → (x ≡ true → AllByRecursion Clean ws) → AllStand text more → AllStand text (item n (verdict (first_wrong x y) ws) ++ more)
-  stand_judged false y ws more e h c m = m
-  stand_judged true false ws more e h c m = m
-  stand_judged true true ws more e h c m = stand_words ws more (standing ws h (c refl) e) m
+  stand_judged : (x y : Bool) (ws : List Part) (more : List Item) → list_all (λ p. fits p.bytes) ws ≡ y → AllByRecursion (Placed text n) ws → (x ≡ true → AllByRecursion (Throughout word_byte) ws) → AllByRecursion (Throughout uncommented) ws → AllStand text more → AllStand text (item n (verdict (first_wrong x y) ws) ++ more)
+  stand_judged false y ws more e h c u m = m
+  stand_judged true false ws more e h c u m = m
+  stand_judged true true ws more e h c u m = stand_words ws more (standing ws h (c refl) u e) m
 
   stand_line : (at : ℕ) (bs tail : List ℕ) (more : List Item) → drop at text ≡ bs ++ tail → Row text at n → Free bs → AllStand text more → AllStand text (item n (judged k n at bs) ++ more)
   stand_line at bs tail more e row f m =
       let u = position_or_len (λ b. eqb b 35) bs in
       let split : bs ++ tail ≡ shown bs ++ (drop u bs ++ tail) =
       ap (λ l. l ++ tail) (sym (take-append-drop u bs)) ∙ append_assoc (take u bs) (drop u bs) tail ∙ ap (λ l. l ++ (drop u bs ++ tail)) (shown_is bs) in
-      stand_judged (list_all (allowed k) (shown bs)) (list_all (λ p. fits p.bytes) (words k n at (shown bs))) (words k n at (shown bs)) more refl (words_placed at (shown bs) (drop u bs ++ tail) (e ∙ split) row (free_shown bs f)) (words_clean at (shown bs)) m
+      stand_judged (list_all (allowed k) (shown bs)) (list_all (λ p. fits p.bytes) (words k n at (shown bs))) (words k n at (shown bs)) more refl (words_placed at (shown bs) (drop u bs ++ tail) (e ∙ split) row (free_shown bs f)) (words_clean at (shown bs)) (words_uncommented at bs) m
 
 -- each line stands where it is said to begin, under its number
 abbrev Lined : List ℕ → ℕ → ℕ → List (List ℕ) → Type 0
@@ -155,4 +171,4 @@ stand_items k text n at (l ∷ ls) h =
 
 pub words-stand : WordsStand
 words-stand k limit text =
-    cond_both (leb (length text) limit) (rest k text 0 1) (faulty 0 TooLong ∷ []) (AllStand text) (λ _. stand_items k text 1 0 (lines text) (lined text 1 0 text refl refl)) (λ _. tt)
+    cond_both (leb (length text) (min limit 1048576)) (rest k text 0 1) (faulty 0 (wrong 30 None) ∷ []) (AllStand text) (λ _. stand_items k text 1 0 (lines text) (lined text 1 0 text refl refl)) (λ _. tt)

@@ -5,3 +5,5 @@ pub mod Standing
 pub mod Decimal
 pub mod Numbers
 pub mod Printed
+pub mod Ahead
+pub mod Front

@@ -44,6 +44,8 @@ impl Error for TextFault {}
 pub struct LineFault {
     pub fault: TextFault,
     pub line: usize,
+    // the first byte of the line's first word, if it has one: it tells what kind of line is faulty
+    pub first_byte: Option<u8>,
 }
 
 impl fmt::Display for LineFault {

@@ -1,5 +1,5 @@
 // Decimal numbers.
-ghost use Rattle.std.specs.Prelude.{◌≡◌, ◌≤◌, true, length, if◌then◌else◌, Ok, Err};
+ghost use Rattle.std.specs.Prelude.{◌≡◌, ◌≤◌, true, false, length, MatchResult};
 ghost use Rattle.std.specs.List.{list_all};
 ghost use Rattle.text.specs.Decimal.{is_digit_lem, is_numeral_lem, value};
 ghost use Rattle.text.specs.Numbers.{number_fault};
@@ -63,10 +63,13 @@ fn value_of(digits: &[u8]) -> u32
     n
 }
 
-// The number that a word of 1 to 5 decimal digits writes; leading zeros serve. A store command's number, `store_script::decimal`, may have any
-// number of digits and has to be below 2^32: here the digits are counted, and every number of so few fits.
+// The number that a word of 1 to 5 decimal digits writes; leading zeros serve. Any other word is malformed (35). A store
+// command's number, `store_script::decimal`, may have any number of digits and has to be below 2^32: here the digits are
+// counted, and every number of so few fits.
 pub fn read_number(word: &[u8]) -> Result<u32, NumberFault>
-    ensures { result ≡ (if is_numeral_lem word.now then Ok (value word.now) else Err NumberFault.Malformed) }
+    ensures { MatchResult result
+        (λ n. (is_numeral_lem word.now ≡ true) × (n ≡ value word.now))
+        (λ fault. (number_fault fault ≡ 35) × (is_numeral_lem word.now ≡ false)) }
 {
     if !is_numeral(word) {
         return Err(NumberFault::Malformed);

@@ -1,7 +1,7 @@
 // The reader: a text's lines, one after the other.
-ghost use Rattle.std.specs.Prelude.{◌≡◌, ◌+◌, ◌<◌, ◌≤◌, length, MatchResult};
-ghost use Rattle.text.specs.Lines.{rest, left, contents, Gives, Reads};
-ghost use Rattle.text.specs.declared.faults.TextFault.TheVariants.{TooLong};
+ghost use Rattle.std.specs.Prelude.{◌≡◌, ◌+◌, ◌<◌, ◌≤◌, min, None, length, MatchResult};
+ghost use Rattle.text.specs.Lines.{rest, contents, Gives, Reads};
+ghost use Rattle.text.specs.Numbers.{text_fault};
 
 use crate::cut::length_before;
 use crate::faults::{LineFault, ReadFault, TextFault};
@@ -12,10 +12,10 @@ use crate::words::Line;
 use std::alloc::Global;
 use std::marker::PhantomData;
 
-// The most bytes that a text may have where no other limit is given.
+// The most bytes that a text may have, whatever limit is given, and the limit where none is.
 pub const DEFAULT_LIMIT: usize = 1048576;
 
-const NEWLINE: u8 = b'\n';
+pub(crate) const NEWLINE: u8 = b'\n';
 
 // A text that is being read: the next line begins at `at`.
 #[derive(Drop)]
@@ -28,15 +28,17 @@ pub struct Reader<'a, T> {
 }
 
 impl<'a, T: Text> Reader<'a, T> {
-    // A reader at the start of a text that may have `limit` bytes.
+    ghost use Rattle.text.specs.Ahead.{ahead};
+
+    // A reader at the start of a text that may have `limit` bytes. A limit over 1,048,576 counts as 1,048,576.
     pub fn new(text: &'a [u8], limit: usize) -> Reader<'a, T>
         ensures text { result.text.now ≡ text.now }
-        ensures limit { result.limit ≡ limit }
-        ensures start { (result.at.place ≡ 0) × (result.at.line ≡ 1) }
+        ensures limit { result.limit ≡ min limit 1048576 }
+        ensures whole { ahead T.Text.rules result ≡ contents T.Text.rules limit text.now }
     {
         Reader {
             text,
-            limit,
+            limit: limit.min(DEFAULT_LIMIT),
             at: Spot { place: 0, line: 1 },
             kind: PhantomData,
         }
@@ -46,19 +48,23 @@ impl<'a, T: Text> Reader<'a, T> {
     pub fn with_default_limit(text: &'a [u8]) -> Reader<'a, T>
         ensures text { result.text.now ≡ text.now }
         ensures limit { result.limit ≡ 1048576 }
-        ensures start { (result.at.place ≡ 0) × (result.at.line ≡ 1) }
+        ensures whole { ahead T.Text.rules result ≡ contents T.Text.rules 1048576 text.now }
     {
         Reader::new(text, DEFAULT_LIMIT)
     }
 
     // Whether the text keeps to its limit; if not it is refused before any line.
     pub fn check_length(&self) -> Result<(), LineFault>
-        ensures { MatchResult result (λ _. length self.now.text.now ≤ self.now.limit) (λ f. (self.now.limit < length self.now.text.now) × (f.fault ≡ TooLong) × (f.line ≡ 0)) }
+        ensures { MatchResult result
+            (λ _. length self.now.text.now ≤ self.now.limit)
+            (λ f. (self.now.limit < length self.now.text.now)
+            × (text_fault f.fault ≡ 30) × (f.line ≡ 0) × (f.first_byte ≡ None)) }
     {
         if self.text.len() > self.limit {
             return Err(LineFault {
                 fault: TextFault::TooLong,
                 line: 0,
+                first_byte: None,
             });
         }
         Ok(())
@@ -68,7 +74,7 @@ impl<'a, T: Text> Reader<'a, T> {
     pub fn next_line(&mut self, heap: Global) -> Result<Option<Line<'a>>, ReadFault>
         ensures text { self.new.text.now ≡ self.old.text.now }
         ensures limit { self.new.limit ≡ self.old.limit }
-        ensures gives { Gives (left T.Text.rules self.old.limit self.old.text.now self.old.at.place self.old.at.line) (left T.Text.rules self.new.limit self.new.text.now self.new.at.place self.new.at.line) result }
+        ensures gives { Gives (ahead T.Text.rules self.old) (ahead T.Text.rules self.new) result }
     {
         self.check_length()?;
         self.next_line_within(heap)
@@ -78,7 +84,10 @@ impl<'a, T: Text> Reader<'a, T> {
     fn next_line_within(&mut self, heap: Global) -> Result<Option<Line<'a>>, ReadFault>
         ensures text { self.new.text.now ≡ self.old.text.now }
         ensures limit { self.new.limit ≡ self.old.limit }
-        ensures gives { Gives (rest T.Text.rules self.old.text.now self.old.at.place self.old.at.line) (rest T.Text.rules self.new.text.now self.new.at.place self.new.at.line) result }
+        ensures gives { Gives
+            (rest T.Text.rules self.old.text.now self.old.at.place self.old.at.line)
+            (rest T.Text.rules self.new.text.now self.new.at.place self.new.at.line)
+            result }
     {
         // by place: each word is told with its place, so the place is counted, and what is left of the text follows from it
         while self.at.place < self.text.len() {
