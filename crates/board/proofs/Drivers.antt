@@ -1,9 +1,9 @@
 -- What the words of a signal say of its driver and of the pins on it.
-use Rattle.std.proofs.Common.{◌≡◌, ℕ, zero, suc, ◌+◌, ◌*◌, ◌/◌, ◌%◌, ◌<◌, ◌≤◌, not, eqb, List, [], ◌∷◌, length, Decides, sym, refl, ap, ◌∙◌, subst, inl, inr, ⊎_elim, arith}
-use Rattle.std.proofs.lemmas.Bool.{cases_lt, eq-eqb, ne_eqb, eqb-true, not_from_false}
+use Rattle.std.proofs.Common.{◌≡◌, ℕ, zero, suc, ◌+◌, ◌*◌, ◌/◌, ◌%◌, ◌<◌, ◌≤◌, not, eqb, ltb, List, [], ◌∷◌, length, Decides, sym, refl, ap, ◌∙◌, subst, inl, inr, ⊎_elim, arith}
+use Rattle.std.proofs.lemmas.Bool.{cases_lt, eq-eqb, ne_eqb, eqb-true, not_from_false, lt-ltb, le-ltb, cond-true, cond-false}
 use Rattle.reach.specs.Reach.{Among}
 use Rattle.netlist.specs.Netlist.{driver_of, pins_of, Used}
-use Rattle.board.specs.Layout.{kind, value, first, pin}
+use Rattle.board.specs.Layout.{kind, value, first, first_told, pin}
 use Rattle.board.specs.Chain.{Least}
 use Rattle.board.specs.Board.{nets, driven, driver_at, netlist_of, pin_word, Sound}
 use Rattle.board.proofs.Signals.{driver-at, driver_past}
@@ -72,8 +72,19 @@ module _ (m : ℕ) (ws : List ℕ) (sound : Sound m ws) where
   first_used a zero h = (λ e. absurd (let z : ◌≡◌ {A = ℕ} 0 1 = cc in omega arith), λ u. let (q, lt, e) = used-pin a u in absurd (h q (omega arith) lt e))
   first_used a (suc p) h = (λ e. pin_used a p h.1 h.2, λ u. not_from_false (eqb (suc p) 0) (ne_eqb (suc p) 0 (λ e. omega arith)))
 
-  pub tells_used : (a w : ℕ) → a < m → w ≡ first m ws a → Decides (not (eqb w 0)) (Used (netlist_of m ws) a)
-  tells_used a w lt told = subst (λ x. Decides (not (eqb x 0)) (Used (netlist_of m ws) a)) (sym told) (first_used a (first m ws a) (sound.chained.firsts a lt))
+  used-told : (a : ℕ) → Decides (not (eqb (first_told m ws a) 0)) (Used (netlist_of m ws) a)
+  used-told a =
+      ⊎_elim
+      (λ lt.
+      subst (λ x. Decides (not (eqb x 0)) (Used (netlist_of m ws) a)) (sym (cond-true (ltb a m) _ _ (lt-ltb a m lt)))
+      (first_used a (first m ws a) (sound.chained.firsts a lt)))
+      (λ le.
+      subst (λ x. Decides (not (eqb x 0)) (Used (netlist_of m ws) a)) (sym (cond-false (ltb a m) _ _ (le-ltb a m le)))
+      (λ e. absurd (let z : ◌≡◌ {A = ℕ} 0 1 = cc in omega arith), λ u. absurd (let lt = used_below a u in omega arith)))
+      (cases_lt a m)
+
+  pub tells_used : (a w : ℕ) → w ≡ first_told m ws a → Decides (not (eqb w 0)) (Used (netlist_of m ws) a)
+  tells_used a w told = subst (λ x. Decides (not (eqb x 0)) (Used (netlist_of m ws) a)) (sym told) (used-told a)
 
   pub tells_pin : (s i w : ℕ) → s < m → i < 4 → w ≡ pin m ws (4 * s + i) → Decides (eqb w 0) (length (pins_of (driver_of (netlist_of m ws) s)) ≤ i)
   tells_pin s i w lt four told =

@@ -4,15 +4,15 @@ use Rattle.std.proofs.lemmas.Bool.{cases_lt, cases_order, eqb-true, eqb-false, l
 use Rattle.reach.specs.Reach.{Among, Follows}
 use Rattle.netlist.specs.Netlist.{pins_of, feeders, Feeds}
 use Rattle.netlist.specs.Places.{place}
-use Rattle.board.specs.Layout.{kind, value, seat, first, pin, next}
+use Rattle.board.specs.Layout.{kind, value, seat, first, first_told, pin, next}
 use Rattle.board.specs.Chain.{Least, Chained}
 use Rattle.board.specs.Board.{nets, driven, netlist_of, order_of, pin_word, Sound}
-use Rattle.board.specs.Fanout.{nowhere, gate_of_lem, upward, chain, fed_by, TellsFed}
+use Rattle.board.specs.Fanout.{nowhere, gate_of_lem, upward, chain, rest_of, fed_by, TellsFed}
 use Rattle.board.proofs.Signals.{driver-at, driver_past}
 use Rattle.board.proofs.Drivers.{pin_word_within}
 use Rattle.board.proofs.Linked.{rows_of}
 use Rattle.board.proofs.Rows.{least_bound, least_step}
-use Rattle.board.proofs.Upward.{chain_goes}
+use Rattle.board.proofs.Upward.{chain-end, chain_goes}
 
 -- ---- pins and drivers
 
@@ -125,14 +125,19 @@ module _ (m : ℕ) (ws : List ℕ) (upto start : ℕ) (chained : Chained m ws) (
       inr (chain_lists n (suc p) (next m ws p) q least over lt on (omega arith))))
       (cases_order q p))
 
+  -- the chain begins with the first pin on x
+  begins : first_told m ws x ≡ first m ws x
+  begins = cond-true (ltb x m) _ _ (lt-ltb x m x-low)
+
   pub fed_told : (y : ℕ) → Among y (fed_by m ws upto start x) → FromPin m ws upto start x y
-  fed_told y told = chain-told (4 * m) 0 (first m ws x) y (chained.firsts x x-low) told
+  fed_told y told = chain-told (4 * m) 0 (first m ws x) y (chained.firsts x x-low) (subst (λ edge. Among y (rest_of m ws upto start edge)) begins told)
 
   pub fed_lists : (q : ℕ) → q < 4 * m → pin m ws q ≡ suc x → Among (gate_of_lem m ws upto start q) (fed_by m ws upto start x)
   fed_lists q lt on =
       let least = chained.firsts x x-low in
       let some = (least_bound (pin m ws) (4 * m) (suc x) 0 (first m ws x) q least (omega arith) lt on).0 in
-      chain_lists (4 * m) 0 (first m ws x) q least (omega arith) lt on (omega arith)
+      subst (λ edge. Among (gate_of_lem m ws upto start q) (rest_of m ws upto start edge)) (sym begins)
+      (chain_lists (4 * m) 0 (first m ws x) q least (omega arith) lt on (omega arith))
 
 -- ---- what the netlist says
 
@@ -233,6 +238,7 @@ module _ (m : ℕ) (ws : List ℕ) (upto start : ℕ) (few : m ≤ 1024) (sound 
 pub fanout_tells : (m : ℕ) (ws : List ℕ) (upto start : ℕ) → m ≤ 1024 → Sound m ws → TellsFed m ws upto start (fed_by m ws upto start)
 fanout_tells m ws upto start few sound =
     record {
+      none = λ x past. ap (rest_of m ws upto start) (cond-false (ltb x m) (first m ws x) 0 (le-ltb x m past)) ∙ chain-end m ws upto start (4 * m);
       feeds = λ x y low follows. fed_feeds m ws upto start few sound x low y (fed_of m ws upto start few sound x low y follows);
       near = λ x y low follows. fed_near m ws upto start few sound x low y (fed_of m ws upto start few sound x low y follows);
       other = λ x y low follows e.

@@ -1,9 +1,9 @@
 -- The gates that a signal feeds, told from the chain of the pins on it.
-use Rattle.std.specs.Prelude.{ℕ, zero, suc, ◌*◌, ◌/◌, ◌<◌, ◌≤◌, cond, List, [], ◌∷◌, ◌==◌, ◌≢◌, nat_lt}
+use Rattle.std.specs.Prelude.{◌≡◌, ℕ, zero, suc, ◌*◌, ◌/◌, ◌<◌, ◌≤◌, cond, List, [], ◌∷◌, ◌==◌, ◌≢◌, nat_lt}
 use Rattle.reach.specs.Reach.{Follows}
 use Rattle.netlist.specs.Netlist.{Feeds}
 use Rattle.netlist.specs.Places.{place}
-use Rattle.board.specs.Layout.{kind, seat, first, next}
+use Rattle.board.specs.Layout.{kind, seat, first_told, next}
 use Rattle.board.specs.Board.{netlist_of, order_of}
 
 -- leads nowhere
@@ -30,12 +30,13 @@ chain m ws upto start (suc n) (suc q) =
 abbrev pub rest_of : ℕ → List ℕ → ℕ → ℕ → ℕ → List ℕ
 rest_of m ws upto start edge = chain m ws upto start (4 * m) edge
 
--- the gates fed by x
+-- the gates fed by x; what is no signal feeds none
 abbrev pub fed_by : ℕ → List ℕ → ℕ → ℕ → ℕ → List ℕ
-fed_by m ws upto start x = rest_of m ws upto start (first m ws x)
+fed_by m ws upto start x = rest_of m ws upto start (first_told m ws x)
 
 -- What is told after a signal are the gates that it feeds: those that stand no further than `upto`, but the start.
 pub record TellsFed (m : ℕ) (ws : List ℕ) (upto start : ℕ) (told : ℕ → List ℕ) : Type 0 where
+  pub none : (x : ℕ) → m ≤ x → told x ≡ []
   pub feeds : (x y : ℕ) → x < m → Follows told x y → Feeds (netlist_of m ws) x y
   pub near : (x y : ℕ) → x < m → Follows told x y → place (order_of m ws) y ≤ upto
   pub other : (x y : ℕ) → x < m → Follows told x y → y ≢ start

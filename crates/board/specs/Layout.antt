@@ -1,5 +1,5 @@
 -- Where a board of m signals is kept in the words of a store. Every field has one word for each signal, place or pin.
-use Rattle.std.specs.Prelude.{ℕ, ◌+◌, ◌*◌, List, slice_index}
+use Rattle.std.specs.Prelude.{ℕ, ◌+◌, ◌*◌, cond, List, nat_lt, slice_index}
 use Rattle.board.specs.declared.field.Field.{Field}
 use Rattle.board.specs.declared.field.Field.TheVariants.{Kind, Output, Value, Seat, Holder, First, Pin, Next, Back}
 
@@ -37,6 +37,14 @@ next m ws q = word ws (10 * m + q)
 
 abbrev pub back : ℕ → List ℕ → ℕ → ℕ
 back m ws q = word ws (14 * m + q)
+
+-- what is told of the first pin on a signal: none on what is no signal
+abbrev pub first_told : ℕ → List ℕ → ℕ → ℕ
+first_told m ws a = cond (nat_lt a m) (first m ws a) 0
+
+-- what is told of pin i of a signal: its word, or 0 where there is no such signal or pin
+abbrev pub pin_told : ℕ → List ℕ → ℕ → ℕ → ℕ
+pin_told m ws s i = cond (nat_lt i 4) (cond (nat_lt s m) (pin m ws (4 * s + i)) 0) 0
 
 -- how many words these are
 abbrev pub needed : ℕ → ℕ

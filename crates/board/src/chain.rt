@@ -1,6 +1,6 @@
-// The chains of pins: a pin goes onto a signal, or off the one that it is on. That the chains are right and the pin is on the board are
-// premises of clauses: on any words, and for any pin, each call is safe and ends.
-ghost use Rattle.std.specs.Prelude.{◌≡◌, suc, ◌*◌, ◌<◌, slice_set};
+// The chains of pins: a pin goes onto a signal, or off the one that it is on. That the chains are right is a premise of clauses: on any words
+// each call is safe and ends. A pin or a signal that there is not is passed over.
+ghost use Rattle.std.specs.Prelude.{◌≡◌, suc, ◌*◌, ◌<◌, ◌≤◌, slice_set};
 ghost use Rattle.board.specs.Layout.{pin as pin_of};
 ghost use Rattle.board.specs.Chain.{Least, Greatest, Chained, Repins};
 ghost use Rattle.board.specs.Links.{onward_at, backed, joined, inserted, removed};
@@ -20,10 +20,16 @@ struct Gap {
 impl<S: Store> StoredBoard<S> {
     // Pin number `pin`, which is on no signal, goes onto `signal`.
     pub fn attach(&mut self, pin: u32, signal: u32)
-        ensures attaches { Chained self.old.signals self.old.words.image → pin < 4 * self.old.signals → pin < 4294967295 → signal < self.old.signals → pin_of self.old.signals self.old.words.image pin ≡ 0 → Repins self.old.signals self.old.words.image pin (suc signal) self.new.words.image }
+        ensures attaches { Chained self.old.signals self.old.words.image
+            → pin < 4 * self.old.signals
+            → signal < self.old.signals
+            → pin_of self.old.signals self.old.words.image pin ≡ 0
+            → Repins self.old.signals self.old.words.image pin (suc signal) self.new.words.image }
+        ensures no_pin { 4 * self.old.signals ≤ pin → self.new ≡ self.old }
+        ensures no_signal { self.old.signals ≤ signal → self.new ≡ self.old }
         ensures only { OnlyWords self.old self.new }
     {
-        if !self.has_pin(pin) || signal >= self.signals() || pin == u32::MAX {
+        if !self.has_pin(pin) || signal >= self.signals() {
             return;
         }
         let gap = self.find_gap(pin, signal);
@@ -32,8 +38,12 @@ impl<S: Store> StoredBoard<S> {
 
     // Pin number `pin` goes off the signal that it is on, if it is on one.
     pub fn detach(&mut self, pin: u32)
-        ensures detaches { Chained self.old.signals self.old.words.image → pin < 4 * self.old.signals → 0 < pin_of self.old.signals self.old.words.image pin → Repins self.old.signals self.old.words.image pin 0 self.new.words.image }
+        ensures detaches { Chained self.old.signals self.old.words.image
+            → pin < 4 * self.old.signals
+            → 0 < pin_of self.old.signals self.old.words.image pin
+            → Repins self.old.signals self.old.words.image pin 0 self.new.words.image }
         ensures idle { pin_of self.old.signals self.old.words.image pin ≡ 0 → self.new ≡ self.old }
+        ensures no_pin { 4 * self.old.signals ≤ pin → self.new ≡ self.old }
         ensures only { OnlyWords self.old self.new }
     {
         if !self.has_pin(pin) {

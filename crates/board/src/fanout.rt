@@ -26,7 +26,7 @@ impl<S: Store> Relation for Fanout<'_, S> {
     ghost rest = { λ f edge. rest_of f.board.now.signals f.board.now.words.image f.upto f.start edge };
 
     fn first(&self, of: u32) -> u32 {
-        self.board.read(Field::First, of)
+        self.board.first_pin(of)
     }
 
     fn step(&self, edge: u32) -> Option<Neighbour> {

@@ -11,4 +11,4 @@ mod stored;
 pub use fanout::Fanout;
 pub use field::Field;
 pub use kind::Kind;
-pub use stored::StoredBoard;
+pub use stored::{SIGNALS_MOST, StoredBoard};

@@ -1,6 +1,6 @@
-// What a board tells of a signal. That the signal is on the board and the words are sound are premises of clauses, and no invariant: any signal
-// may be asked about, on any words.
-ghost use Rattle.std.specs.Prelude.{◌≡◌, ◌<◌, true, ◌⊎◌, Decides};
+// What a board tells of a signal. Any number may be asked about: what is no signal is absent, unused and no output. That the words are sound is a
+// premise of clauses, and no invariant: any words may be asked about too.
+ghost use Rattle.std.specs.Prelude.{◌≡◌, true, ◌⊎◌, Decides};
 ghost use Rattle.netlist.specs.Netlist.{absent, driver_of, output_of, pins_of, Used};
 ghost use Rattle.netlist.specs.Edits.{Pinned};
 ghost use Rattle.board.specs.Board.{netlist_of, Sound};
@@ -37,21 +37,26 @@ impl<S: Store> StoredBoard<S> {
     }
 
     // A pin is on the signal where it tells a first one.
+    #[tactic(auto, using(crate::proofs::Drivers::tells_used))]
     pub fn is_used(&self, signal: u32) -> bool
-        ensures { signal < self.now.signals → Sound self.now.signals self.now.words.image → Decides result (Used (netlist_of self.now.signals self.now.words.image) signal) }
+        ensures { Sound self.now.signals self.now.words.image
+            → Decides result (Used (netlist_of self.now.signals self.now.words.image) signal) }
     {
-        self.read(Field::First, signal) != 0
+        self.first_pin(signal) != 0
     }
 
+    #[tactic(auto, using(crate::proofs::Signals::output_at, crate::proofs::Signals::output_past))]
     pub fn is_output(&self, signal: u32) -> bool
-        ensures { signal < self.now.signals → result ≡ output_of (netlist_of self.now.signals self.now.words.image) signal }
+        ensures { result ≡ output_of (netlist_of self.now.signals self.now.words.image) signal }
     {
-        self.read(Field::Output, signal) == 1
+        signal < self.signals() && self.read(Field::Output, signal) == 1
     }
 
     // A pin is on the signal, or it is an output.
     pub fn is_wanted(&self, signal: u32) -> bool
-        ensures { signal < self.now.signals → Sound self.now.signals self.now.words.image → Decides result (Used (netlist_of self.now.signals self.now.words.image) signal ⊎ (output_of (netlist_of self.now.signals self.now.words.image) signal ≡ true)) }
+        ensures { let netlist = netlist_of self.now.signals self.now.words.image in
+            Sound self.now.signals self.now.words.image
+            → Decides result (Used netlist signal ⊎ (output_of netlist signal ≡ true)) }
     {
         self.is_used(signal) || self.is_output(signal)
     }

@@ -5,7 +5,7 @@ use Rattle.board.specs.Chain.{Chained, Repins}
 use Rattle.edits.specs.Cells.{Wirable, Changed, cell_at, as_wired}
 
 abbrev pub Attaches : ℕ → List ℕ → ℕ → ℕ → List ℕ → Type 0
-Attaches m ws q a ws' = Chained m ws → q < 4 * m → q < 4294967295 → a < m → pin m ws q ≡ 0 → Repins m ws q (suc a) ws'
+Attaches m ws q a ws' = Chained m ws → q < 4 * m → a < m → pin m ws q ≡ 0 → Repins m ws q (suc a) ws'
 
 abbrev pub Releases : ℕ → List ℕ → ℕ → List ℕ → Type 0
 Releases m ws q ws' = Chained m ws → q < 4 * m → Repins m ws q 0 ws'

@@ -172,17 +172,16 @@ module _ (m : ℕ) (ws : List ℕ) (high : m ≤ 1024) (stands : Stands m ws) wh
       (λ i four. refl) refl refl (same-output s lt) tt refl
 
   pub entered_move : (s i a : ℕ) (ws' : List ℕ) → Passes m (netlist_of m ws) (Move s i a)
-      → (Site m ws s → i < 4 → a < m → Changed m ws s (as_moved (cell_at m ws s) i a) ws') → Entered m ws (Move s i a) ws'
+      → (Site m ws s → a < m → Changed m ws s (as_moved (cell_at m ws s) i a) ws') → Entered m ws (Move s i a) ws'
   entered_move s i a ws' p h =
       let lt : s < m = signal-below m (Move s i a) p.signals in
       let net-low : a < m = ⊎_elim (λ l. l) (λ le. absurd (p.signals (inr (inl le)))) (cases_lt a m) in
       let d : driver_of (netlist_of m ws) s ≡ driver_at m ws s = driver-at m ws s lt in
       let has : i < length (pins_of (driver_at m ws s)) =
       subst (λ x. i < length (pins_of x)) d (⊎_elim (λ l. l) (λ le. absurd (p.pins le)) (cases_lt i (length (pins_of (driver_of (netlist_of m ws) s))))) in
-      let four : i < 4 = omega (arith, pins_few m ws s) in
       let pinned : Pinned (driver_at m ws s) = subst Pinned d (really_pinned (driver_of (netlist_of m ws) s) p.kinds) in
       let on = set (pins_of (driver_at m ws s)) i a in
-      entered_by m ws s (as_moved (cell_at m ws s) i a) ws' on (repinned (driver_of (netlist_of m ws) s) i a) (output_of (netlist_of m ws) s) (Move s i a) lt stands (h (site s lt) four net-low)
+      entered_by m ws s (as_moved (cell_at m ws s) i a) ws' on (repinned (driver_of (netlist_of m ws) s) i a) (output_of (netlist_of m ws) s) (Move s i a) lt stands (h (site s lt) net-low)
       (omega (arith, length-set (pins_of (driver_at m ws s)) i a, pins_few m ws s))
       (λ j less. ap (λ w. cond (eqb i j) (suc a) w) (stands.sound.spelled s j lt less) ∙ set_words (pins_of (driver_at m ws s)) i a j has)
       (re_own (kind m ws s) (value m ws s) _ i a pinned has)

@@ -1,10 +1,10 @@
 -- Pins put in turn: what one more put adds.
-use Rattle.std.proofs.Common.{◌≡◌, ℕ, zero, suc, ◌+◌, ◌-◌, ◌*◌, ◌<◌, ◌≤◌, min, Bool, ◌⊎◌, List, [], ◌∷◌, ◌++◌, length, get_or, take, drop, sym, refl, ap, ◌∙◌, subst, inl, inr, ⊎_elim, arith}
+use Rattle.std.proofs.Common.{◌≡◌, ℕ, zero, suc, ◌+◌, ◌*◌, ◌<◌, ◌≤◌, min, Bool, ◌⊎◌, List, [], ◌∷◌, ◌++◌, length, get_or, take, sym, refl, ap, ◌∙◌, subst, inl, inr, ⊎_elim, arith}
 use Rattle.std.proofs.lemmas.Bool.{cases_lt, cases_Bool, cond-true, cond-false}
-use Rattle.std.proofs.lemmas.List.{length-take, length-drop, take_more, take_all}
+use Rattle.std.proofs.lemmas.List.{take_more, take_all}
 use Rattle.reach.specs.Reach.{Among}
 use Rattle.netlist.specs.Netlist.{Netlist, Feeds}
-use Rattle.netlist.specs.Places.{Order, place, those, segment, OrderedBut, Moves, Puts, PutsAll}
+use Rattle.netlist.specs.Places.{Order, place, those, OrderedBut, Moves, Puts, PutsAll}
 use Rattle.board.specs.Board.{netlist_of, order_of}
 use Rattle.places.specs.Put.{Ready, Places}
 use Rattle.edits.specs.Puts.{ReadyAll, PlacedAll}
@@ -71,10 +71,8 @@ puts_few n o s a o' c h =
     (λ lt. omega (arith, (h.0 lt).1))
     (λ le.
     let g : Moves n o s a o' c = h.1 le in
-    let part = segment o (place o s) (place o a) in
-    let few : length (those g.moving part) ≤ length part = those_few g.moving part in
-    let short : length part ≡ min (suc (place o a) - place o s) (length (drop (place o s) o)) = length-take (suc (place o a) - place o s) (drop (place o s) o) in
-    omega (arith, g.counts, length-drop (place o s) o))
+    let few : length (those g.moving o) ≤ length o = those_few g.moving o in
+    omega (arith, g.counts))
     (cases_lt (place o a) (place o s))
 
 -- ---- the nets of an array, one after the other

@@ -16,7 +16,7 @@ no_less m levels n e b le f g h i j l o k lt (driven x) = i lt x
 no_less m levels n e b le f g h i j l o k lt (wrong_kind x) = j lt x
 no_less m levels n e b le f g h i j l o k lt (no_pin x) = l lt x
 no_less m levels n e b le f g h i j l o k lt (in_use x) = o lt x
-no_less m levels n e b le f g h i j l o k lt (looped a x xs y) = absurd (omega arith)
+no_less m levels n e b le f g h i j l o k lt (looped xs y) = absurd (omega arith)
 
 below : (m s : ℕ) → (m ≤ s → ⊥) → s < m
 below m s h = ⊎_elim (λ lt. lt) (λ le. absurd (h le)) (cases_lt s m)

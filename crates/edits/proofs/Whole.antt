@@ -14,7 +14,7 @@ use Rattle.netlist.proofs.Loops.{order-excludes-loops}
 use Rattle.board.specs.Board.{signal_at, netlist_of, order_of, board_of}
 use Rattle.board.specs.Standing.{Fitting, Stands, Inside}
 use Rattle.board.proofs.Listing.{length-listing}
-use Rattle.edits.specs.Checks.{Checks, Passes, Plain}
+use Rattle.edits.specs.Checks.{Unrefused, Passes, Plain}
 use Rattle.edits.specs.Entered.{Entered}
 use Rattle.edits.specs.Puts.{ReadyAll, PlacedAll, PutsPins}
 use Rattle.edits.specs.Makes.{Workable, Makes, Placing}
@@ -70,7 +70,7 @@ placing m ws e a₁ a₂ s on r few stands p en es eo put =
     finish r all where
       finish : (r : Result ℕ Path) → PutsPins m a₁ (signal_of e) (puts_of (netlist_of m ws) e) a₂ r → Placing m ws e a₂.image r
       finish (Ok total) h = all_placed m ws e a₁.image few stands p en a₂.image total h
-      finish (Err path) (a, among, loop) = (a, among, subst (λ n. Loop n (along path)) en.netlist loop)
+      finish (Err path) loop = subst (λ n. Loop n (along path)) en.netlist loop
 
 plain-none : (n : Netlist) (e : Edit) → Plain e → puts_of n e ≡ []
 plain-none n (Input s) h = refl
@@ -87,7 +87,7 @@ plain_placing m ws e ws₁ plain few stands p en =
 
 -- ---- refusals
 
-pub passes : (m l : ℕ) (n : Netlist) (e : Edit) → Checks m l n e (Ok tt) → Passes m n e
+pub passes : (m l : ℕ) (n : Netlist) (e : Edit) → Unrefused m l n e → Passes m n e
 passes m l n e h = record {
   signals = λ x. h 12 (omega arith) (no_signal x);
   ranged = λ x. h 13 (omega arith) (out_of_range x);
@@ -97,7 +97,7 @@ passes m l n e h = record {
   unused = λ x. h 19 (omega arith) (in_use x);
 }
 
-none_applies : (m l : ℕ) (n : Netlist) (e : Edit) → Checks m l n e (Ok tt) → ((xs : List ℕ) → Loop (asked n e) xs → ⊥) → (k : ℕ) → Applies m l n e k → ⊥
+none_applies : (m l : ℕ) (n : Netlist) (e : Edit) → Unrefused m l n e → ((xs : List ℕ) → Loop (asked n e) xs → ⊥) → (k : ℕ) → Applies m l n e k → ⊥
 none_applies m l n e h no_loop k (no_batch x) = h 10 (omega arith) (no_batch x)
 none_applies m l n e h no_loop k (no_signal x) = h 12 (omega arith) (no_signal x)
 none_applies m l n e h no_loop k (out_of_range x) = h 13 (omega arith) (out_of_range x)
@@ -105,11 +105,11 @@ none_applies m l n e h no_loop k (driven x) = h 14 (omega arith) (driven x)
 none_applies m l n e h no_loop k (wrong_kind x) = h 15 (omega arith) (wrong_kind x)
 none_applies m l n e h no_loop k (no_pin x) = h 16 (omega arith) (no_pin x)
 none_applies m l n e h no_loop k (in_use x) = h 19 (omega arith) (in_use x)
-none_applies m l n e h no_loop k (looped a x xs y) = no_loop xs y
+none_applies m l n e h no_loop k (looped xs y) = no_loop xs y
 
 -- ---- the edit as a whole
 
-pub made_ok : (m : ℕ) (a a' : Meaning) (e : Edit) (total : ℕ) → Workable m a → Checks m (levels a) (netlist_of m a.image) e (Ok tt) → Inside a a'
+pub made_ok : (m : ℕ) (a a' : Meaning) (e : Edit) (total : ℕ) → Workable m a → Unrefused m (levels a) (netlist_of m a.image) e → Inside a a'
     → Placing m a.image e a'.image (Ok total) → Makes m a e a' (Ok total)
 made_ok m a a' e total w checks inside (stands, netlist, puts) = record {
   edits = (
@@ -135,7 +135,7 @@ drops_some a b (Ok _) lt h = h.1
 drops_some a b (Err f) lt h = absurd (omega (arith, h.1))
 
 -- the edit was made on a level of its own
-module _ (m : ℕ) (a a₁ a₂ a₃ : Meaning) (e : Edit) (w : Workable m a) (checks : Checks m (levels a) (netlist_of m a.image) e (Ok tt)) (ro : Result (Unit {0}) StoreRefusal) (open' : Opens a a₁ ro) (inside : Inside a₁ a₂) where
+module _ (m : ℕ) (a a₁ a₂ a₃ : Meaning) (e : Edit) (w : Workable m a) (checks : Unrefused m (levels a) (netlist_of m a.image) e) (ro : Result (Unit {0}) StoreRefusal) (open' : Opens a a₁ ro) (inside : Inside a₁ a₂) where
   opened_now : a₁ ≡ opened a
   opened_now = opens_room a a₁ ro w.room open'
 
@@ -170,13 +170,13 @@ module _ (m : ℕ) (a a₁ a₂ a₃ : Meaning) (e : Edit) (w : Workable m a) (c
   pub made_looped : (path : Path) (rd : Result (Unit {0}) StoreRefusal) → Placing m a₁.image e a₂.image (Err path) → Drops a₂ a₃ rd → Makes m a e a₃ (Err LoopAsked)
   made_looped path rd h drops =
       let back : a₃ ≡ a = taken_back rd drops in
-      let (x, among, loop) = subst (λ y. Placing m y.image e a₂.image (Err path)) opened_now h in
+      let loop = subst (λ y. Placing m y.image e a₂.image (Err path)) opened_now h in
       record {
-        edits = (looped x among (along path) loop, λ k lt. checks k lt, ap (λ y. board_of m y.image) back);
+        edits = (looped (along path) loop, λ k lt. checks k lt, ap (λ y. board_of m y.image) back);
         stands = subst (λ y. Stands m y.image) (sym back) w.stands;
         inside = record { levels = ap (λ y. y.saved) back; limit = ap (λ y. y.limit) back };
         untouched = back;
       }
 
   pub loop-shown : (path : Path) → Placing m a₁.image e a₂.image (Err path) → Loop (asked (netlist_of m a.image) e) (along path)
-  loop-shown path h = let (x, among, loop) = subst (λ y. Placing m y.image e a₂.image (Err path)) opened_now h in loop
+  loop-shown path h = subst (λ y. Placing m y.image e a₂.image (Err path)) opened_now h

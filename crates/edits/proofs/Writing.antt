@@ -205,7 +205,7 @@ module _ (m : ℕ) (ws : List ℕ) (s k : ℕ) (on : List ℕ) (w : Wirable m ws
   wired_none = changed_like m ws s (cell_at m ws s) (as_wired (cell_at m ws s) 0 on) ws refl refl refl (λ i four. on_nets-none on (cell_at m ws s).pins i) (unchanged m ws s w.site.chained)
 
   pub wired_more : (i q : ℕ) (ws' ws'' : List ℕ) → i < k → q ≡ 4 * s + i → Changed m ws s (as_wired (cell_at m ws s) i on) ws'
-      → (Chained m ws' → q < 4 * m → q < 4294967295 → get_or on i 0 < m → pin m ws' q ≡ 0 → Repins m ws' q (suc (get_or on i 0)) ws'')
+      → (Chained m ws' → q < 4 * m → get_or on i 0 < m → pin m ws' q ≡ 0 → Repins m ws' q (suc (get_or on i 0)) ws'')
       → Changed m ws s (as_wired (cell_at m ws s) (i + 1) on) ws''
   wired_more i q ws' ws'' lt e h attached =
       let four : i < 4 = omega (arith, w.most) in
@@ -213,7 +213,7 @@ module _ (m : ℕ) (ws : List ℕ) (s k : ℕ) (on : List ℕ) (w : Wirable m ws
       let high : m ≤ 1024 = w.site.few in
       let was : pin m ws' q ≡ 0 =
       ap (pin m ws') e ∙ cell-pin m ws s (as_wired (cell_at m ws s) i on) ws' i low four h ∙ cond-false (ltb i i) _ _ (le-ltb i i (omega arith)) ∙ w.free i four in
-      let r : Repins m ws' q (suc (get_or on i 0)) ws'' = attached h.chained (omega arith) (omega arith) (w.nets i lt) was in
+      let r : Repins m ws' q (suc (get_or on i 0)) ws'' = attached h.chained (omega arith) (w.nets i lt) was in
       changed_like m ws s _ (as_wired (cell_at m ws s) (i + 1) on) ws'' refl refl refl (λ j four. on_nets_more i on (cell_at m ws s).pins j)
       (pin-set m ws s (as_wired (cell_at m ws s) i on) ws' low h i (suc (get_or on i 0)) ws'' four (subst (λ x. Repins m ws' x (suc (get_or on i 0)) ws'') e r))
 
@@ -284,7 +284,7 @@ module _ (m : ℕ) (ws : List ℕ) (s : ℕ) (site : Site m ws s) where
       (kind-set m ws s (as_unwired (cell_at m ws s) 4) ws' site.below h 0))
 
   pub moved : (j q net : ℕ) (ws' ws'' : List ℕ) → j < 4 → net < m → q ≡ 4 * s + j → (Chained m ws → q < 4 * m → Repins m ws q 0 ws')
-      → (Chained m ws' → q < 4 * m → q < 4294967295 → net < m → pin m ws' q ≡ 0 → Repins m ws' q (suc net) ws'')
+      → (Chained m ws' → q < 4 * m → net < m → pin m ws' q ≡ 0 → Repins m ws' q (suc net) ws'')
       → Changed m ws s (as_moved (cell_at m ws s) j net) ws''
   moved j q net ws' ws'' four lt e off on =
       let low : s < m = site.below in
@@ -293,7 +293,7 @@ module _ (m : ℕ) (ws : List ℕ) (s : ℕ) (site : Site m ws s) where
       let r : Repins m ws q 0 ws' = off site.chained q-low in
       let gone : pin m ws' q ≡ 0 = r.pins q q-low ∙ cond-true (eqb q q) 0 (pin m ws q) (eq-eqb q q refl) in
       let first = pin-set m ws s (cell_at m ws s) ws low (unchanged m ws s site.chained) j 0 ws' four (subst (λ x. Repins m ws x 0 ws') e r) in
-      let second : Repins m ws' (4 * s + j) (suc net) ws'' = subst (λ x. Repins m ws' x (suc net) ws'') e (on first.chained q-low (omega arith) lt gone) in
+      let second : Repins m ws' (4 * s + j) (suc net) ws'' = subst (λ x. Repins m ws' x (suc net) ws'') e (on first.chained q-low lt gone) in
       changed_like m ws s _ (as_moved (cell_at m ws s) j net) ws'' refl refl refl
       (λ i lt. over (eqb j i) (suc net) 0 ((cell_at m ws s).pins i))
       (pin-set m ws s _ ws' low first j (suc net) ws'' four second) where

@@ -1,10 +1,9 @@
 -- What an edit leaves.
-use Rattle.std.specs.Prelude.{◌≡◌, ℕ, ◌<◌, ◌≤◌, List, Ok, Err, Result}
+use Rattle.std.specs.Prelude.{◌≡◌, ℕ, ◌<◌, ◌≤◌, ◌⊎◌, List, Ok, Err, Result, IsErr}
 use Rattle.words.specs.Meaning.{Meaning, levels}
-use Rattle.reach.specs.Reach.{Among}
 use Rattle.netlist.specs.declared.edit.Edit.{Edit}
 use Rattle.netlist.specs.declared.edit.Refusal.{Refusal}
-use Rattle.netlist.specs.declared.edit.Refusal.TheVariants.{Looped as LoopAsked}
+use Rattle.netlist.specs.declared.edit.Refusal.TheVariants.{NoLevelForMark, Looped as LoopAsked}
 use Rattle.netlist.specs.Refusals.{number}
 use Rattle.netlist.specs.Places.{PutsAll}
 use Rattle.reach.specs.Listed.{along}
@@ -13,9 +12,10 @@ use Rattle.edits.specs.declared.fault.EditFault.TheVariants.{Refused, Looped}
 use Rattle.reach.specs.declared.path.Path.{Path}
 use Rattle.netlist.specs.Netlist.{Netlist, Loop}
 use Rattle.netlist.specs.Edits.{Edits, asked, puts_of, signal_of}
-use Rattle.board.specs.Board.{board_of, netlist_of, order_of}
+use Rattle.board.specs.Board.{board_of, netlist_of, order_of, Sound}
 use Rattle.board.specs.Standing.{Stands, Inside}
 use Rattle.board.specs.Stored.{Stored, Stays}
+use Rattle.edits.specs.Checks.{Smallest, Unrefused}
 
 -- where edits are made: a board that is in order, and a level is left
 pub record Workable (m : ℕ) (a : Meaning) : Type 0 where
@@ -43,7 +43,7 @@ Early (Err r) = number r < 25
 abbrev pub Placing : ℕ → List ℕ → Edit → List ℕ → Result ℕ Path → Type 0
 Placing m ws e ws' (Ok total) = Stands m ws' × (netlist_of m ws' ≡ asked (netlist_of m ws) e)
     × PutsAll (asked (netlist_of m ws) e) (order_of m ws) (signal_of e) (puts_of (netlist_of m ws) e) (order_of m ws') total
-Placing m ws e ws' (Err path) = (a : ℕ) × Among a (puts_of (netlist_of m ws) e) × Loop (asked (netlist_of m ws) e) (along path)
+Placing m ws e ws' (Err path) = Loop (asked (netlist_of m ws) e) (along path)
 
 -- a refused edit leaves the whole meaning of the store
 abbrev pub Untouched : Meaning → Meaning → Result ℕ Refusal → Type 0
@@ -56,6 +56,18 @@ pub record Makes (m : ℕ) (before : Meaning) (e : Edit) (after : Meaning) (r : 
   pub stands : Stands m after.image
   pub inside : Inside before after
   pub untouched : Untouched before after r
+
+-- why an edit is refused where no level is left: the smallest number below 25 that applies, or else 20
+abbrev pub NoRoom : ℕ → ℕ → Netlist → Edit → Result ℕ Refusal → Type 0
+NoRoom m levels n e (Ok count) = ⊥
+NoRoom m levels n e (Err r) = Smallest m levels n e r ⊎ (Unrefused m levels n e × (r ≡ NoLevelForMark))
+
+-- All levels of the store are open: an edit is refused, on any words, and no word is changed.
+pub record Full (before : Stored) (e : Edit) (after : Stored) (r : Result ℕ Refusal) : Type 0 where
+  pub refused : IsErr r
+  pub which : before.signals ≤ 1024 → Sound before.signals before.words.image →
+      NoRoom before.signals (levels before.words) (netlist_of before.signals before.words.image) e r
+  pub untouched : after.words ≡ before.words
 
 -- An edit that puts no pin: whatever refuses it is seen at once, and M and the memory behind the store stay.
 pub record MakesPlain (before : Stored) (e : Edit) (after : Stored) (r : Result ℕ Refusal) : Type 0 where

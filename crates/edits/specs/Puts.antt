@@ -28,7 +28,7 @@ pub record PlacedAll (m : ℕ) (ws : List ℕ) (s : ℕ) (on : List ℕ) (ws' : 
   pub stays : (x : ℕ) → place (order_of m ws) x < place (order_of m ws) s → place (order_of m ws') x < place (order_of m ws') s
   pub before : (a : ℕ) → Among a on → place (order_of m ws') a < place (order_of m ws') s
 
--- all have their places; or one of them closes a loop of the netlist
+-- all have their places; or the netlist has a loop
 abbrev pub PutsPins : ℕ → Meaning → ℕ → List ℕ → Meaning → Result ℕ Path → Type 0
 PutsPins m before s on after (Ok total) = PlacedAll m before.image s on after.image total
-PutsPins m before s on after (Err path) = (a : ℕ) × Among a on × Loop (netlist_of m before.image) (along path)
+PutsPins m before s on after (Err path) = Loop (netlist_of m before.image) (along path)

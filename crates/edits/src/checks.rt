@@ -1,21 +1,24 @@
 // The refusals of an edit that are seen before a pin is put, the smallest number first. That the words are sound and M is
 // at most 1,024 are premises, since a check is made on any words of any board.
-ghost use Rattle.std.specs.Prelude.{◌≡◌, ℕ, ◌<◌, ◌≤◌, List, length, take, Decides, nat_le};
+ghost use Rattle.std.specs.Prelude.{◌≡◌, ℕ, ◌<◌, ◌≤◌, false, List, length, take, Decides, IfOk, nat_le};
 ghost use Rattle.std.specs.List.{list_any};
 ghost use Rattle.words.specs.Meaning.{levels as levels_of};
 ghost use Rattle.netlist.specs.Netlist.{driver_of, pins_of};
 ghost use Rattle.netlist.specs.Edits.{Beyond, named, Unranged, DrivenAlready, WrongKind, PinBeyond, StillUsed, signal_of};
 ghost use Rattle.board.specs.Board.{netlist_of, Sound};
-ghost use Rattle.edits.specs.Checks.{Checks};
+ghost use Rattle.edits.specs.Checks.{Checks, pin_of};
 
-use crate::enter::pin_number;
-use board::{Field, StoredBoard};
+use crate::checked::Checked;
+use board::StoredBoard;
 use netlist::{Edit, Refusal};
 use table::Table;
 use words::Store;
 
-pub(crate) fn check<S: Store>(board: &StoredBoard<S>, edit: Edit) -> Result<(), Refusal>
-    ensures { board.now.signals ≤ 1024 → Sound board.now.signals board.now.words.image → Checks board.now.signals (levels_of board.now.words) (netlist_of board.now.signals board.now.words.image) edit result }
+pub(crate) fn check<S: Store>(board: &StoredBoard<S>, edit: Edit) -> Result<Checked, Refusal>
+    ensures same { IfOk result (λ checked. checked.edit ≡ edit) }
+    ensures checks { let m = board.now.signals in
+        let ws = board.now.words.image in
+        m ≤ 1024 → Sound m ws → Checks m (levels_of board.now.words) (netlist_of m ws) edit result }
 {
     if board.levels() == 0 {
         return Err(Refusal::NoBatch);
@@ -39,7 +42,7 @@ pub(crate) fn check<S: Store>(board: &StoredBoard<S>, edit: Edit) -> Result<(), 
     if asked.still_used() {
         return Err(Refusal::InUse);
     }
-    Ok(())
+    Ok(Checked { edit })
 }
 
 // A signal or net that counts is not below M.
@@ -96,7 +99,9 @@ struct Asked<'a, S: Store> {
 
 impl<S: Store> Asked<'_, S> {
     fn driven_already(&self) -> bool
-        ensures { Decides result (DrivenAlready (netlist_of self.now.board.now.signals self.now.board.now.words.image) self.now.edit) }
+        ensures { let m = self.now.board.now.signals in
+            let ws = self.now.board.now.words.image in
+            Decides result (DrivenAlready (netlist_of m ws) self.now.edit) }
     {
         match self.edit {
             Edit::Input { signal } | Edit::Gate { signal, .. } | Edit::Latch { signal, .. } => {
@@ -107,7 +112,9 @@ impl<S: Store> Asked<'_, S> {
     }
 
     fn wrong_kind(&self) -> bool
-        ensures { Decides result (WrongKind (netlist_of self.now.board.now.signals self.now.board.now.words.image) self.now.edit) }
+        ensures { let m = self.now.board.now.signals in
+            let ws = self.now.board.now.words.image in
+            Decides result (WrongKind (netlist_of m ws) self.now.edit) }
     {
         match self.edit {
             Edit::Delete { signal } => self.board.is_absent(signal),
@@ -117,7 +124,10 @@ impl<S: Store> Asked<'_, S> {
     }
 
     fn pin_beyond(&self) -> bool
-        ensures { self.now.board.now.signals ≤ 1024 → Sound self.now.board.now.signals self.now.board.now.words.image → Decides result (PinBeyond (netlist_of self.now.board.now.signals self.now.board.now.words.image) self.now.edit) }
+        ensures four { result ≡ false → pin_of self.now.edit < 4 }
+        ensures beyond { let m = self.now.board.now.signals in
+            let ws = self.now.board.now.words.image in
+            Sound m ws → Decides result (PinBeyond (netlist_of m ws) self.now.edit) }
     {
         match self.edit {
             Edit::Move { signal, pin, .. } => lacks_pin(self.board, signal, pin),
@@ -126,7 +136,9 @@ impl<S: Store> Asked<'_, S> {
     }
 
     fn still_used(&self) -> bool
-        ensures { Sound self.now.board.now.signals self.now.board.now.words.image → Decides result (StillUsed (netlist_of self.now.board.now.signals self.now.board.now.words.image) self.now.edit) }
+        ensures { let m = self.now.board.now.signals in
+            let ws = self.now.board.now.words.image in
+            Sound m ws → Decides result (StillUsed (netlist_of m ws) self.now.edit) }
     {
         match self.edit {
             Edit::Delete { signal } => self.board.is_wanted(signal),
@@ -138,7 +150,10 @@ impl<S: Store> Asked<'_, S> {
 // There is no such pin where its word is 0.
 fn lacks_pin<S: Store>(board: &StoredBoard<S>, signal: u32, pin: u32) -> bool
     requires { signal < board.now.signals }
-    ensures { board.now.signals ≤ 1024 → Sound board.now.signals board.now.words.image → Decides result (length (pins_of (driver_of (netlist_of board.now.signals board.now.words.image) signal)) ≤ pin) }
+    ensures four { result ≡ false → pin < 4 }
+    ensures lacks { let m = board.now.signals in
+        let ws = board.now.words.image in
+        Sound m ws → Decides result (length (pins_of (driver_of (netlist_of m ws) signal)) ≤ pin) }
 {
-    pin > 3 || board.read(Field::Pin, pin_number(signal, pin)) == 0
+    pin > 3 || board.pin(signal, pin) == 0
 }

@@ -1,6 +1,7 @@
 // The six edits on a board that is kept in the words of a store.
 #![tactic(auto)]
 
+mod checked;
 mod checks;
 mod enter;
 mod fault;

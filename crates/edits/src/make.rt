@@ -1,5 +1,6 @@
 // An edit on a board: its refusals, the change of the netlist, and the places.
-ghost use Rattle.std.specs.Prelude.{◌≡◌, ◌<◌, ◌≤◌, length, take, replicate};
+ghost use Rattle.std.specs.Prelude.{◌≡◌, ◌<◌, ◌≤◌, length, take};
+ghost use Rattle.words.specs.Meaning.{levels as levels_of};
 ghost use Rattle.netlist.specs.declared.edit.Edit.TheVariants.{Input, Output, Latch, Delete};
 ghost use Rattle.netlist.specs.Edits.{puts_of, signal_of};
 ghost use Rattle.board.specs.Board.{netlist_of};
@@ -7,8 +8,9 @@ ghost use Rattle.board.specs.Standing.{Stands};
 ghost use Rattle.board.specs.Stored.{Stays, OnlyWords};
 ghost use Rattle.edits.specs.Checks.{Passes, Plain};
 ghost use Rattle.edits.specs.Entered.{Entered};
-ghost use Rattle.edits.specs.Makes.{Workable, Makes, MakesPlain, Placing, reply_of, Faults};
+ghost use Rattle.edits.specs.Makes.{Workable, Makes, MakesPlain, Full, Placing, reply_of, Faults};
 
+use crate::checked::{Checked, Pin, Signal};
 use crate::checks::check;
 use crate::enter::{enter_delete, enter_driver, enter_input, enter_move, enter_output};
 use crate::fault::EditFault;
@@ -16,27 +18,31 @@ use crate::puts::put_all;
 use arrayvec::ArrayVec;
 use board::{Kind, StoredBoard};
 use netlist::{Edit, Refusal};
-use reach::{Path, clear};
+use reach::{Flags, Path};
 use words::Store;
 
 // Replies with the sum of the counts of its puts. The calls of edits ask nothing and are safe on any words; what they promise is for boards in
-// order, of at most 1,024 signals, with a level left (`Workable`), so that is a premise of clauses and no invariant.
+// order, of at most 1,024 signals, with a level left (`Workable`), so that is a premise of clauses and no invariant. Where no level is left, the
+// edit is refused (`Full`).
 pub fn make_edit<S: Store>(
     board: &mut StoredBoard<S>,
     edit: Edit,
-    flags: &mut [u8; 1024],
+    flags: &mut Flags<'_>,
 ) -> Result<u32, EditFault>
-    ensures makes { Workable board.old.signals board.old.words → Makes board.old.signals board.old.words edit board.new.words (reply_of result) }
-    ensures faults { Workable board.old.signals board.old.words → Faults (netlist_of board.old.signals board.old.words.image) edit result }
-    ensures clean { flags.new ≡ replicate 1024 0 }
+    ensures makes { let m = board.old.signals in
+        Workable m board.old.words → Makes m board.old.words edit board.new.words (reply_of result) }
+    ensures faults { let m = board.old.signals in
+        let ws = board.old.words.image in
+        Workable m board.old.words → Faults (netlist_of m ws) edit result }
+    ensures full { board.old.words.limit ≤ levels_of board.old.words → Full board.old edit board.new (reply_of result) }
+    ensures lent { flags.new.table.ghost_name ≡ flags.old.table.ghost_name }
     ensures stays { Stays board.old board.new }
 {
-    clear(flags);
-    check(board, edit)?;
+    let checked = check(board, edit)?;
     board
         .open_level()
         .map_err(|_| EditFault::Refused(Refusal::NoLevelForMark))?;
-    match place(board, edit, flags) {
+    match place(board, checked, flags) {
         Ok(count) => {
             let _ = board.keep_level();
             Ok(count)
@@ -51,16 +57,19 @@ pub fn make_edit<S: Store>(
 // The change of the netlist, then the puts.
 fn place<S: Store>(
     board: &mut StoredBoard<S>,
-    edit: Edit,
-    flags: &mut [u8; 1024],
+    checked: Checked,
+    flags: &mut Flags<'_>,
 ) -> Result<u32, Path>
-    ensures places { board.old.signals ≤ 1024 → Stands board.old.signals board.old.words.image → Passes board.old.signals (netlist_of board.old.signals board.old.words.image) edit → Placing board.old.signals board.old.words.image edit board.new.words.image result }
+    ensures places { let m = board.old.signals in
+        let ws = board.old.words.image in
+        m ≤ 1024 → Stands m ws → Passes m (netlist_of m ws) checked.edit →
+        Placing m ws checked.edit board.new.words.image result }
     ensures only { OnlyWords board.old board.new }
-    ensures clean { flags.new ≡ replicate 1024 0 }
+    ensures lent { flags.new.table.ghost_name ≡ flags.old.table.ghost_name }
 {
-    let nets = nets_to_put(board, edit);
-    enter(board, edit);
-    put_all(board, edit.signal(), nets.as_slice(), flags)
+    let nets = nets_to_put(board, checked.edit);
+    enter(board, checked);
+    put_all(board, checked.edit.signal(), nets.as_slice(), flags)
 }
 
 // An edit that puts no pin has a call of its own, which needs no flags: one call for all of them would ask its caller for such an edit.
@@ -107,8 +116,8 @@ fn make_plain<S: Store>(board: &mut StoredBoard<S>, edit: Edit) -> Result<u32, R
     requires { Plain edit }
     ensures { MakesPlain board.old edit board.new result }
 {
-    check(board, edit)?;
-    enter(board, edit);
+    let checked = check(board, edit)?;
+    enter(board, checked);
     Ok(0)
 }
 
@@ -135,23 +144,45 @@ fn first_nets(count: u32, nets: [u32; 4]) -> ArrayVec<u32, 4>
 }
 
 // The words change so that they tell the netlist asked for.
-fn enter<S: Store>(board: &mut StoredBoard<S>, edit: Edit)
-    ensures enters { board.old.signals ≤ 1024 → Stands board.old.signals board.old.words.image → Passes board.old.signals (netlist_of board.old.signals board.old.words.image) edit → Entered board.old.signals board.old.words.image edit board.new.words.image }
+fn enter<S: Store>(board: &mut StoredBoard<S>, checked: Checked)
+    ensures enters { let m = board.old.signals in
+        let ws = board.old.words.image in
+        m ≤ 1024 → Stands m ws → Passes m (netlist_of m ws) checked.edit →
+        Entered m ws checked.edit board.new.words.image }
     ensures only { OnlyWords board.old board.new }
 {
-    match edit {
-        Edit::Input { signal } => enter_input(board, signal),
-        Edit::Output { signal, mark } => enter_output(board, signal, mark),
+    match checked.edit {
+        Edit::Input { signal } => enter_input(board, Signal { number: signal }),
+        Edit::Output { signal, mark } => enter_output(board, Signal { number: signal }, mark),
         Edit::Gate {
             signal,
             pins,
             nets,
             table,
-        } => enter_driver(board, signal, Kind::Gate, table, pins, nets),
+        } => enter_driver(
+            board,
+            Signal { number: signal },
+            Kind::Gate,
+            table,
+            pins,
+            nets,
+        ),
         Edit::Latch { signal, net, start } => {
-            enter_driver(board, signal, Kind::Latch, start, 1, [net; 4])
+            enter_driver(
+                board,
+                Signal { number: signal },
+                Kind::Latch,
+                start,
+                1,
+                [net; 4],
+            )
         }
-        Edit::Delete { signal } => enter_delete(board, signal),
-        Edit::Move { signal, pin, net } => enter_move(board, signal, pin, net),
+        Edit::Delete { signal } => enter_delete(board, Signal { number: signal }),
+        Edit::Move { signal, pin, net } => enter_move(
+            board,
+            Signal { number: signal },
+            Pin { index: pin },
+            net,
+        ),
     }
 }

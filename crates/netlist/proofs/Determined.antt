@@ -25,7 +25,7 @@ module _ (n : Netlist) (o : Order) (s a : ℕ) where
       let move : those h.moving xs ≡ those g.moving xs = λ i. those (λ x. same x i) xs in
       let stay : those (λ x. not (h.moving x)) xs ≡ those (λ x. not (g.moving x)) xs = λ i. those (λ x. not (same x i)) xs in (
         h.filled ∙ (λ i. take (place o s) o ++ (stay i ++ (move i ++ drop (suc (place o a)) o))) ∙ sym g.filled,
-        h.counts ∙ ap length move ∙ sym g.counts,
+        h.counts ∙ (λ i. length (those (λ x. same x i) o)) ∙ sym g.counts,
       )
 
   puts_determined : (o₁ o₂ : Order) (c₁ c₂ : ℕ) → Puts n o s a o₁ c₁ → Puts n o s a o₂ c₂ → (o₁ ≡ o₂) × (c₁ ≡ c₂)
@@ -64,7 +64,7 @@ refusal-of MarkOpen = refl
 refusal-of AbsentInUse = refl
 refusal-of Looped = refl
 
-same-refusal : (r t : Refusal) → number r ≡ number t → r ≡ t
+pub same-refusal : (r t : Refusal) → number r ≡ number t → r ≡ t
 same-refusal r t e = sym (refusal-of r) ∙ ap refusal_of e ∙ refusal-of t
 
 same_board : {b c : Board} → b.netlist ≡ c.netlist → b.order ≡ c.order → b ≡ c

@@ -1,9 +1,9 @@
 -- The worked cases hold of the rules.
-use Rattle.std.proofs.Common.{◌≡◌, ℕ, zero, suc, ◌<◌, ◌≤◌, Bool, ◌||◌, eqb, ◌⊎◌, [], ◌∷◌, sym, refl, subst, inl, inr, ⊎_elim, arith}
+use Rattle.std.proofs.Common.{◌≡◌, ℕ, zero, suc, ◌<◌, ◌≤◌, Bool, ◌||◌, eqb, ◌⊎◌, List, [], ◌∷◌, sym, refl, ap, subst, inl, inr, ⊎_elim, arith}
 use Rattle.std.proofs.lemmas.Bool.{or_cases, or_left, or_right, eqb-true, eq-eqb}
 use Rattle.reach.specs.Reach.{Among}
 use Rattle.netlist.specs.declared.edit.Edit.TheVariants.{Input, Move}
-use Rattle.netlist.specs.Netlist.{Netlist, absent, input, driver_of, Feeds, Leads, here, onward, Loop}
+use Rattle.netlist.specs.Netlist.{Netlist, absent, input, driver_of, Feeds, Leads, here, onward, Loop, SmallestFirst}
 use Rattle.netlist.specs.Places.{Order, place, Ordered, Moves}
 use Rattle.netlist.specs.Edits.{Board, Applies, no_batch, no_signal, out_of_range, driven, wrong_kind, no_pin, in_use, looped, empty_board, asked}
 use Rattle.netlist.specs.Laws.{Worked, follower}
@@ -105,7 +105,7 @@ moves =
 never : ◌≡◌ {A = ℕ} 1 0 → ⊥
 never e = omega arith
 
-allowed-input : (k : ℕ) → Applies 5 1 (empty_board 5).netlist (Input 0) k → ⊥
+pub allowed-input : (k : ℕ) → Applies 5 1 (empty_board 5).netlist (Input 0) k → ⊥
 allowed-input k (no_batch e) = never e
 allowed-input k (no_signal (inl h)) = omega arith
 allowed-input k (no_signal (inr h)) = h
@@ -114,7 +114,7 @@ allowed-input k (driven h) = h refl
 allowed-input k (wrong_kind h) = h
 allowed-input k (no_pin h) = h
 allowed-input k (in_use h) = h
-allowed-input k (looped a put xs loop) = order-excludes-loops board₁.netlist before xs ordered₁ loop
+allowed-input k (looped xs loop) = order-excludes-loops board₁.netlist before xs ordered₁ loop
 
 -- a gate of one pin may come where nothing drives, if an order of what it asks for has it behind what feeds it
 allowed_follower :
@@ -130,7 +130,7 @@ allowed_follower n s a o s_in a_in free ordered k (driven h) = h free
 allowed_follower n s a o s_in a_in free ordered k (wrong_kind h) = h
 allowed_follower n s a o s_in a_in free ordered k (no_pin h) = h
 allowed_follower n s a o s_in a_in free ordered k (in_use h) = h
-allowed_follower n s a o s_in a_in free ordered k (looped x put xs loop) = order-excludes-loops (asked n (follower s a)) o xs ordered loop
+allowed_follower n s a o s_in a_in free ordered k (looped xs loop) = order-excludes-loops (asked n (follower s a)) o xs ordered loop
 
 -- ---- refusals
 
@@ -145,7 +145,7 @@ before_loop a below k less (driven h) = h
 before_loop a below k less (wrong_kind h) = h tt
 before_loop a below k less (no_pin h) = omega arith
 before_loop a below k less (in_use h) = h
-before_loop a below k less (looped x put xs loop) = omega arith
+before_loop a below k less (looped xs loop) = omega arith
 
 different : (x y : ℕ) → (x ≡ y → ⊥) → Among x (y ∷ []) → ⊥
 different x y ne (inl e) = ne e
@@ -160,6 +160,80 @@ loop_three = (
 loop_one : Loop (asked board₄.netlist (Move 4 0 4)) (4 ∷ [])
 loop_one = (((λ none. none), tt), inl refl)
 
+-- ---- no other loop
+
+-- what feeds what once the pin of 4 is moved to 2
+three-feeds : (a c : ℕ) → Feeds (asked board₄.netlist (Move 4 0 2)) a c → ((a ≡ 4) × (c ≡ 1)) ⊎ (((a ≡ 1) × (c ≡ 2)) ⊎ ((a ≡ 2) × (c ≡ 4)))
+three-feeds a zero h = absurd h
+three-feeds a (suc zero) (inl is) = inl (is, refl)
+three-feeds a (suc zero) (inr none) = absurd none
+three-feeds a (suc (suc zero)) (inl is) = inr (inl (is, refl))
+three-feeds a (suc (suc zero)) (inr none) = absurd none
+three-feeds a (suc (suc (suc zero))) h = absurd h
+three-feeds a (suc (suc (suc (suc zero)))) (inl is) = inr (inr (is, refl))
+three-feeds a (suc (suc (suc (suc zero)))) (inr none) = absurd none
+three-feeds a (suc (suc (suc (suc (suc c))))) h = absurd h
+
+no-other-of-three : (xs : List ℕ) → Loop (asked board₄.netlist (Move 4 0 2)) xs → SmallestFirst xs → xs ≡ 1 ∷ 2 ∷ 4 ∷ []
+no-other-of-three [] loop small = absurd loop
+no-other-of-three (x ∷ []) loop small = let one = three-feeds x x loop.1 in absurd (grind arith)
+no-other-of-three (x ∷ (y ∷ [])) loop small =
+    let one = three-feeds x y loop.1.0 in
+    let two = three-feeds y x loop.1.1 in
+    absurd (grind arith)
+no-other-of-three (x ∷ (y ∷ (z ∷ []))) loop small =
+    let one = three-feeds x y loop.1.0 in
+    let two = three-feeds y z loop.1.1.0 in
+    let three = three-feeds z x loop.1.1.1 in
+    let least : x ≤ y = small y (inl refl) in
+    let least' : x ≤ z = small z (inr (inl refl)) in
+    let a : x ≡ 1 = grind arith in
+    let b : y ≡ 2 = grind arith in
+    let c : z ≡ 4 = grind arith in
+    λ i. a i ∷ b i ∷ c i ∷ []
+no-other-of-three (x ∷ (y ∷ (z ∷ (w ∷ ws)))) loop small =
+    let one = three-feeds x y loop.1.0 in
+    let two = three-feeds y z loop.1.1.0 in
+    let three = three-feeds z w loop.1.1.1.0 in
+    let again : x ≡ w = grind arith in
+    absurd (loop.0.0 (inr (inr (inl again))))
+
+-- what feeds what once it is moved to itself
+one-feeds : (a c : ℕ) → Feeds (asked board₄.netlist (Move 4 0 4)) a c → ((a ≡ 4) × (c ≡ 1)) ⊎ (((a ≡ 1) × (c ≡ 2)) ⊎ ((a ≡ 4) × (c ≡ 4)))
+one-feeds a zero h = absurd h
+one-feeds a (suc zero) (inl is) = inl (is, refl)
+one-feeds a (suc zero) (inr none) = absurd none
+one-feeds a (suc (suc zero)) (inl is) = inr (inl (is, refl))
+one-feeds a (suc (suc zero)) (inr none) = absurd none
+one-feeds a (suc (suc (suc zero))) h = absurd h
+one-feeds a (suc (suc (suc (suc zero)))) (inl is) = inr (inr (is, refl))
+one-feeds a (suc (suc (suc (suc zero)))) (inr none) = absurd none
+one-feeds a (suc (suc (suc (suc (suc c))))) h = absurd h
+
+no-other-of-one : (xs : List ℕ) → Loop (asked board₄.netlist (Move 4 0 4)) xs → xs ≡ 4 ∷ []
+no-other-of-one [] loop = absurd loop
+no-other-of-one (x ∷ []) loop =
+    let one = one-feeds x x loop.1 in
+    let is : x ≡ 4 = grind arith in
+    ap (λ y. y ∷ []) is
+no-other-of-one (x ∷ (y ∷ [])) loop =
+    let one = one-feeds x y loop.1.0 in
+    let two = one-feeds y x loop.1.1 in
+    let again : x ≡ y = grind arith in
+    absurd (loop.0.0 (inl again))
+no-other-of-one (x ∷ (y ∷ (z ∷ []))) loop =
+    let one = one-feeds x y loop.1.0 in
+    let two = one-feeds y z loop.1.1.0 in
+    let three = one-feeds z x loop.1.1.1 in
+    let again : x ≡ y = grind arith in
+    absurd (loop.0.0 (inl again))
+no-other-of-one (x ∷ (y ∷ (z ∷ (w ∷ ws)))) loop =
+    let one = one-feeds x y loop.1.0 in
+    let two = one-feeds y z loop.1.1.0 in
+    let three = one-feeds z w loop.1.1.1.0 in
+    let again : x ≡ y = grind arith in
+    absurd (loop.0.0 (inl again))
+
 driven_now : input ≡ absent → ⊥
 driven_now e = let z : ◌≡◌ {A = ℕ} 0 1 = cc in omega arith
 
@@ -172,7 +246,7 @@ before-driven k less (driven h) = omega arith
 before-driven k less (wrong_kind h) = h
 before-driven k less (no_pin h) = h
 before-driven k less (in_use h) = h
-before-driven k less (looped a put xs loop) = omega arith
+before-driven k less (looped xs loop) = omega arith
 
 pub worked : Worked
 worked =
@@ -186,9 +260,11 @@ worked =
       two_on_one = (allowed_follower board₂.netlist 2 1 before (omega arith) (omega arith) refl ordered₃, refl, (before, 0, 0, ((λ _. (refl, refl)), (λ h. absurd (omega arith))), (refl, refl), refl));
       one_on_four = (allowed_follower board₃.netlist 1 4 after (omega arith) (omega arith) refl ordered₄, refl, (after, 2, 0, ((λ h. absurd (omega arith)), (λ _. moves)), (refl, refl), refl));
       order_then = refl;
-      four_to_two = (looped 2 (inl refl) (1 ∷ 2 ∷ 4 ∷ []) loop_three, before_loop 2 (omega arith), refl);
+      four_to_two = (looped (1 ∷ 2 ∷ 4 ∷ []) loop_three, before_loop 2 (omega arith), refl);
       loop_of_three = loop_three;
-      four_to_itself = (looped 4 (inl refl) (4 ∷ []) loop_one, before_loop 4 (omega arith), refl);
+      no_other_of_three = no-other-of-three;
+      four_to_itself = (looped (4 ∷ []) loop_one, before_loop 4 (omega arith), refl);
       loop_of_one = loop_one;
+      no_other_of_one = no-other-of-one;
       input_again = (driven driven_now, before-driven, refl);
     }

@@ -1,3 +1,3 @@
 pub mod Determined
-mod Examples
+pub mod Examples
 pub mod Loops

@@ -1,6 +1,5 @@
 -- What an edit asks for, when it is refused, and what it leaves.
 use Rattle.std.specs.Prelude.{◌≡◌, ℕ, ◌^◌, ◌<◌, ◌≤◌, Bool, true, false, ◌⊎◌, List, [], ◌∷◌, length, take, Ok, Err, Result, ◌==◌, slice_set}
-use Rattle.reach.specs.Reach.{Among}
 use Rattle.netlist.specs.declared.edit.Edit.{Edit}
 use Rattle.netlist.specs.declared.edit.Edit.TheVariants.{Input, Output, Gate, Latch, Delete, Move}
 use Rattle.netlist.specs.declared.edit.Refusal.{Refusal}
@@ -127,7 +126,8 @@ StillUsed n (Latch s net start) = ⊥
 StillUsed n (Delete s) = Used n s ⊎ (output_of n s ≡ true)
 StillUsed n (Move s i a) = ⊥
 
--- the numbers that apply to an edit on a netlist of m signals, with so many levels open; only one that puts a pin can ask for a loop
+-- The numbers that apply to an edit on a netlist of m signals, with so many levels open. Whether 25 does is decided by the netlist asked for alone,
+-- whatever the edit.
 pub data Applies (m levels : ℕ) (n : Netlist) (e : Edit) : ℕ → Type 0 where
   no_batch : levels ≡ 0 → Applies m levels n e 10
   no_signal : Beyond m (named e) → Applies m levels n e 12
@@ -136,7 +136,7 @@ pub data Applies (m levels : ℕ) (n : Netlist) (e : Edit) : ℕ → Type 0 wher
   wrong_kind : WrongKind n e → Applies m levels n e 15
   no_pin : PinBeyond n e → Applies m levels n e 16
   in_use : StillUsed n e → Applies m levels n e 19
-  looped : (a : ℕ) → Among a (puts_of n e) → (xs : List ℕ) → Loop (asked n e) xs → Applies m levels n e 25
+  looped : (xs : List ℕ) → Loop (asked n e) xs → Applies m levels n e 25
 
 -- ---- what it leaves
 

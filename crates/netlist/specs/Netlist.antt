@@ -1,5 +1,5 @@
 -- What a netlist is: signals, what drives each, and which feed which.
-use Rattle.std.specs.Prelude.{◌≡◌, ℕ, Bool, true, false, List, [], ◌∷◌, replicate, ◌≢◌, slice_index_or}
+use Rattle.std.specs.Prelude.{◌≡◌, ℕ, ◌≤◌, Bool, true, false, List, [], ◌∷◌, replicate, ◌≢◌, slice_index_or}
 use Rattle.reach.specs.Reach.{Among}
 
 -- absent; an input; a gate, by its table and the signal that each pin is on; a latch, by its start value and the signal that its pin is on
@@ -66,6 +66,14 @@ Feeding n (x ∷ (y ∷ ys)) end = Feeds n x y × Feeding n (y ∷ ys) end
 abbrev pub Loop : Netlist → List ℕ → Type 0
 Loop n [] = ⊥
 Loop n (x ∷ xs) = Different (x ∷ xs) × Feeding n (x ∷ xs) x
+
+-- none is smaller than the first
+abbrev pub SmallestFirst : List ℕ → Type 0
+SmallestFirst [] = Unit {0}
+SmallestFirst (x ∷ xs) = (y : ℕ) → Among y xs → x ≤ y
+
+abbrev pub HasLoop : Netlist → Type 0
+HasLoop n = (xs : List ℕ) × Loop n xs
 
 -- no absent signal is an output or has a pin on it
 abbrev pub Whole : Netlist → Type 0

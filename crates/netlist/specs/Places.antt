@@ -19,13 +19,7 @@ counted from (suc m) = from ∷ counted (suc from) m
 abbrev pub first_order : ℕ → Order
 first_order m = counted 0 m
 
--- the places are a permutation of the signals
-pub record Permutes (m : ℕ) (o : Order) : Type 0 where
-  pub long : length o ≡ m
-  pub each : (s : ℕ) → s < m → place o s < m
-  pub below : (p : ℕ) → p < m → slice_index o p < m
-
--- each signal has one place and each place one signal
+-- The places are a permutation of the signals: each signal has one place and each place one signal.
 pub record Arranges (m : ℕ) (o : Order) : Type 0 where
   pub long : length o ≡ m
   pub each : (s : ℕ) → s < m → place o s < m
@@ -50,14 +44,14 @@ abbrev pub segment : Order → ℕ → ℕ → List ℕ
 segment o p q = take (suc q - p) (drop p o)
 
 -- The places from that of s to that of a are filled anew: first by the signals met that are not to move, then by those that are, both as they were met.
--- To move are s and all that is reached from s and stands no further than a. The count is how many these are.
+-- To move are s and all that is reached from s and stands no further than a. The count is how many of all signals these are.
 pub record Moves (n : Netlist) (o : Order) (s a : ℕ) (o' : Order) (count : ℕ) : Type 0 where
   pub moving : ℕ → Bool
   pub reached : (x : ℕ) → moving x ≡ true → Leads n s x × (place o x ≤ place o a)
   pub all : (x : ℕ) → Leads n s x → place o x ≤ place o a → moving x ≡ true
   pub filled : o' ≡ take (place o s) o ++ (those (λ x. not (moving x)) (segment o (place o s) (place o a))
       ++ (those moving (segment o (place o s) (place o a)) ++ drop (suc (place o a)) o))
-  pub counts : count ≡ length (those moving (segment o (place o s) (place o a)))
+  pub counts : count ≡ length (those moving o)
 
 -- A pin of gate s is put on a: nothing moves where a stands before s.
 abbrev pub Puts : Netlist → Order → ℕ → ℕ → Order → ℕ → Type 0

@@ -1,5 +1,5 @@
 // Theorems about the rules of edits, each the contract of a function that does nothing else.
-ghost use Rattle.netlist.specs.Laws.{EditsDetermined, OrderExcludesLoops, Worked};
+ghost use Rattle.netlist.specs.Laws.{EditsDetermined, OrderExcludesLoops, RefusedForLoops, Worked};
 
 // An edit on a board has one outcome.
 pub fn edits_are_determined()
@@ -9,6 +9,11 @@ pub fn edits_are_determined()
 // An order in which each gate stands behind what feeds it leaves no loop.
 pub fn order_excludes_loops()
     ensures { OrderExcludesLoops }
+{}
+
+// Where no smaller number applies, an edit is refused with 25 if and only if the netlist that it asks for has a loop.
+pub fn loops_are_refused()
+    ensures { RefusedForLoops }
 {}
 
 // The worked cases hold of the rules.

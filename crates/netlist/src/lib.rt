@@ -5,4 +5,4 @@ mod edit;
 mod laws;
 
 pub use edit::{Edit, Refusal};
-pub use laws::{edits_are_determined, order_excludes_loops, worked_cases_hold};
+pub use laws::{edits_are_determined, loops_are_refused, order_excludes_loops, worked_cases_hold};

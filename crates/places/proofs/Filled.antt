@@ -174,7 +174,7 @@ module _ (m : ℕ) (o : List ℕ) (p q : ℕ) (perm : Arranges m o) (up : p ≤ 
       ∙ omega (arith, front_long, place-left (segment o p q) (drop (suc q) o) x a) in
       (omega arith, omega (arith, is, place_in (segment o p q) x a, mid_long))
 
-  pub place_seg : (x : ℕ) → p ≤ place o x → place o x ≤ q → Among x (segment o p q)
+  place_seg : (x : ℕ) → p ≤ place o x → place o x ≤ q → Among x (segment o p q)
   place_seg x low high =
       let whole : place o x ≡ place (take p o ++ (segment o p q ++ drop (suc q) o)) x = ap (λ l. place l x) parts in
       let out : Among x (take p o) → ⊥ =
@@ -183,11 +183,6 @@ module _ (m : ℕ) (o : List ℕ) (p q : ℕ) (perm : Arranges m o) (up : p ≤ 
       ⊎_elim (λ a. a)
       (λ a. absurd (omega (arith, high, whole, is, front_long, mid_long, up, place_right (segment o p q) (drop (suc q) o) x a)))
       (cases_among x (segment o p q))
-
-  pub seg_different : Different (segment o p q)
-  seg_different =
-      let d = subst Different parts (permutes_different m o perm) in
-      different_left (segment o p q) (drop (suc q) o) (different_right (take p o) (segment o p q ++ drop (suc q) o) d)
 
   module _ (f : ℕ → Bool) where
     pub filled_permutes : Arranges m (filled f o p q)

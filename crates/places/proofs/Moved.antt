@@ -5,16 +5,16 @@ use Rattle.std.proofs.lemmas.Bool.{cases_lt}
 use Rattle.reach.specs.Flags.{marked}
 use Rattle.netlist.specs.Netlist.{Netlist, Leads}
 use Rattle.netlist.specs.Netlist.Leads.{here, onward}
-use Rattle.netlist.specs.Places.{Order, place, those, segment, Arranges, OrderedBut, Moves}
+use Rattle.netlist.specs.Places.{Order, place, those, Arranges, OrderedBut, Moves}
 use Rattle.places.specs.Refill.{flagged, filled}
-use Rattle.places.proofs.Filled.{place_seg, seg_different, filled-before, filled-behind}
+use Rattle.places.proofs.Standing.{in_place}
+use Rattle.places.proofs.Filled.{permutes_different, filled-before, filled-behind}
 use Rattle.places.proofs.Counting.{marked-those, those_alike, flagged-up, flagged-set}
 
 -- What moves: all that is reached and stands no further than the signal.
 pub record Moving (n : Netlist) (o : Order) (s a : ℕ) (f : ℕ → Bool) : Type 0 where
   pub reached : (x : ℕ) → f x ≡ true → Leads n s x
   pub upto : (x : ℕ) → f x ≡ true → place o x ≤ place o a
-  pub from : (x : ℕ) → f x ≡ true → place o s ≤ place o x
   pub all : (x : ℕ) → Leads n s x → place o x ≤ place o a → f x ≡ true
 
 module _ (n : Netlist) (m : ℕ) (o : Order) (s a : ℕ) (perm : Arranges m o) (near : place o s ≤ place o a) (within : place o a < m) where
@@ -35,18 +35,15 @@ module _ (n : Netlist) (m : ℕ) (o : Order) (s a : ℕ) (perm : Arranges m o) (
         filled-behind m o (place o s) (place o a) perm near within f a s stays gate-moves near (omega arith) (omega arith) near
 
   module _ (flags : List ℕ) (long : length flags ≡ 1024) (moves : Moving n o s a (flagged flags)) where
-    moved-count : marked flags ≡ length (those (flagged flags) (segment o (place o s) (place o a)))
+    moved-count : marked flags ≡ length (those (flagged flags) o)
     moved-count =
-        let seg = segment o (place o s) (place o a) in
-        marked-those seg flags (seg_different m o (place o s) (place o a) perm near within)
+        marked-those o flags (permutes_different m o perm)
         (λ x lit.
         ⊎_elim
-        (λ lt.
-        let e = flagged-set flags x lt lit in
-        place_seg m o (place o s) (place o a) perm near within x (moves.from x e) (moves.upto x e))
+        (λ lt. in_place o x (omega (arith, moves.upto x (flagged-set flags x lt lit), within, perm.long)))
         (λ le. absurd (lit (get_or_past flags x 0 (omega arith))))
         (cases_lt x 1024))
-        ∙ ap length (those_alike (λ x. not (eqb (get_or flags x 0) 0)) (flagged flags) seg (λ x in-seg. sym (flagged-up flags long x)))
+        ∙ ap length (those_alike (λ x. not (eqb (get_or flags x 0) 0)) (flagged flags) o (λ x among. sym (flagged-up flags long x)))
 
     pub moved_order : (o' : Order) (count : ℕ) → o' ≡ filled (flagged flags) o (place o s) (place o a) → count ≡ marked flags → Moves n o s a o' count
     moved_order o' count is counted =

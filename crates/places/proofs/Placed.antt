@@ -12,7 +12,7 @@ use Rattle.places.specs.Put.{Ready, Places}
 use Rattle.places.specs.Refill.{flagged, filled, Range, Reordered, Renumbered}
 use Rattle.places.proofs.Filled.{filled_permutes, filled-place, permutes_at}
 use Rattle.places.proofs.Counting.{flagged-set, set-flagged}
-use Rattle.places.proofs.Reached.{reach_leads, leads_reach, reach_behind, way_loop}
+use Rattle.places.proofs.Reached.{reach_leads, leads_reach, way_loop}
 use Rattle.places.proofs.Moved.{Moving, moved-others, moved_stays, moved_before, moved_order}
 use Rattle.places.proofs.Words.{order_at, order_same, netlist_same, sound_same}
 use Rattle.places.proofs.Seating.{holder_small, holder-place}
@@ -38,7 +38,6 @@ module _ (m : ℕ) (ws : List ℕ) (s a : ℕ) (ready : Ready m ws s a) where
         record {
           reached = λ x e. (leads x (flagged_reach x e)).1;
           upto = λ x e. (leads x (flagged_reach x e)).2;
-          from = λ x e. reach_behind m ws upto s told tells ready.few ready.gate ready.others near x (flagged_reach x e);
           all = λ x l le.
               let r = leads_reach m ws upto s told tells ready.few ready.gate ready.others near x l le in
               let lit = whole.flagged.whole x r in

@@ -34,14 +34,6 @@ module _
       told-on r follows)
       (cases_eq y s)
 
-  -- nothing that is reached stands before the gate
-  pub reach_behind : (near : place (order_of m ws) s ≤ upto) (y : ℕ) → Reach told s y → place (order_of m ws) s ≤ place (order_of m ws) y
-  reach_behind near y (start lt) = omega arith
-  reach_behind near y (told-on {a = x} r f) =
-      let before = reach_behind near x r in
-      let here = told-behind x y (reach_leads near x r).0 f in
-      omega arith
-
   -- ---- a way from the gate to the signal is a loop
 
   -- what comes later on a way stands behind

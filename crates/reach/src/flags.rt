@@ -1,6 +1,30 @@
 // The table of flags that a search borrows.
 ghost use Rattle.std.specs.Prelude.{◌≡◌, ◌<◌, replicate, MatchBool, ◌≢◌, slice_index, slice_set};
 
+// A table of flags that is lent, each of them 0. What borrows it, as a search does, gives it back so.
+pub struct Flags<'a> {
+    pub table: &'a mut [u8; 1024],
+    ghost clean: { table.now ≡ replicate 1024 0 },
+}
+
+impl Drop for Flags<'_> {
+    fn drop(self)
+        ensures { self.exit.0.now ≡ replicate 1024 0 }
+    {
+        let Flags { table: _ } = self;
+    }
+}
+
+impl<'a> Flags<'a> {
+    // Whatever the flags held, each is 0.
+    pub fn new(table: &'a mut [u8; 1024]) -> Self
+        ensures lent { result.table.ghost_name ≡ table.entry.ghost_name }
+    {
+        clear(table);
+        Flags { table }
+    }
+}
+
 // Whatever the flags held, each is 0.
 pub fn clear(flags: &mut [u8; 1024])
     ensures { flags.new ≡ replicate 1024 0 }

@@ -7,7 +7,8 @@ mod queue;
 mod relation;
 mod search;
 
-pub use flags::clear;
+pub use flags::{Flags, clear};
 pub use path::Path;
+pub use queue::Queue;
 pub use relation::{Neighbour, Relation};
 pub use search::{Search, answers_are_determined};

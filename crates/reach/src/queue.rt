@@ -1,7 +1,7 @@
 // The numbers that a search has found, in the order in which it found them.
 #![tactic(auto, using(crate::proofs::Listed::listing))]
 
-ghost use Rattle.std.specs.Prelude.{◌≡◌, ◌<◌, ◌≤◌, ◌==◌, [], ◌∷◌, length, reverse, position, MatchOption, slice_index_or};
+ghost use Rattle.std.specs.Prelude.{◌≡◌, ◌<◌, ◌≤◌, ◌==◌, [], ◌∷◌, length, reverse, position, MatchBool, MatchOption, slice_index_or};
 ghost use Rattle.std.specs.Option.{ForSome};
 ghost use Rattle.reach.specs.Told.{Earlier};
 
@@ -25,7 +25,8 @@ impl Queue {
     ghost use Rattle.reach.specs.Listed.{listed, along, with_trail, HeadOf};
     ghost use Rattle.reach.specs.Answer.{PathTo};
 
-    pub(crate) fn new() -> Self
+    // No number is found yet.
+    pub fn new() -> Self
         ensures { listed result ≡ [] }
     {
         Queue {
@@ -37,6 +38,12 @@ impl Queue {
         ensures { listed self.new ≡ [] }
     {
         self.found.clear();
+    }
+
+    pub(crate) fn is_empty(&self) -> bool
+        ensures { MatchBool result (listed self.now ≡ []) (0 < length (listed self.now)) }
+    {
+        self.found.is_empty()
     }
 
     pub(crate) fn len(&self) -> usize

@@ -26,17 +26,21 @@ struct Query<'r, R> {
 #[derive(Drop)]
 struct Sought;
 
-// A guard over a table of flags that is lent: when it is let go, on whatever way, every flag is 0.
+// A guard over a table of flags that is lent: when it is let go, on whatever way, every flag is 0. While nothing is listed, none is flagged: so a
+// guard is made of its parts over flags that are clean, and these are not cleared again; `new` takes any.
 pub struct Search<'a> {
-    flags: &'a mut [u8; 1024],
-    queue: Queue,
+    pub flags: &'a mut [u8; 1024],
+    pub queue: Queue,
+    ghost idle: { listed queue ≡ [] → flags.now ≡ replicate 1024 0 },
 }
 
 impl Drop for Search<'_> {
     fn drop(self)
         ensures { self.exit.0.now ≡ replicate 1024 0 }
     {
-        clear(self.flags);
+        if !self.queue.is_empty() {
+            clear(self.flags);
+        }
         let Search { flags: _, queue: _ } = self;
     }
 }
@@ -101,8 +105,10 @@ impl<'a> Search<'a> {
         ensures clear { self.new.flags.now ≡ replicate 1024 0 }
         ensures empty { listed self.new.queue ≡ [] }
     {
-        clear(self.flags);
-        self.queue.clear();
+        if !self.queue.is_empty() {
+            clear(self.flags);
+            self.queue.clear();
+        }
     }
 
     // A number is told by the one at a place, or by none: one that is new is flagged and listed.

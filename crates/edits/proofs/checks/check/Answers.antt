@@ -12,22 +12,25 @@ decided : (k m : ℕ) (e : Edit) (r : Bool) → k ≡ m → Decides r (Beyond k 
 decided k m e r same h = subst (λ n. Decides r (Beyond n (named e))) same h
 
 pub returns-then-levels-eq0 : goal.returns-then-levels-eq0
-returns-then-levels-eq0 g c = λ few sound. let b = c.args.board.now in (
-  no_batch (omega (arith, c.levels.ensures)),
-  omega arith,
-  no_less b.signals (levels b.words) (netlist_of b.signals b.words.image) c.args.edit 10 (omega arith)
-      (λ lt _. absurd (omega arith))
-      (λ lt _. absurd (omega arith))
-      (λ lt _. absurd (omega arith))
-      (λ lt _. absurd (omega arith))
-      (λ lt _. absurd (omega arith))
-      (λ lt _. absurd (omega arith))
-      (λ lt _. absurd (omega arith)),
-)
+returns-then-levels-eq0 g c = let b = c.args.board.now in record {
+  same = tt;
+  checks = λ few sound. (
+    no_batch (omega (arith, c.levels.ensures)),
+    omega arith,
+    no_less b.signals (levels b.words) (netlist_of b.signals b.words.image) c.args.edit 10 (omega arith)
+        (λ lt _. absurd (omega arith))
+        (λ lt _. absurd (omega arith))
+        (λ lt _. absurd (omega arith))
+        (λ lt _. absurd (omega arith))
+        (λ lt _. absurd (omega arith))
+        (λ lt _. absurd (omega arith))
+        (λ lt _. absurd (omega arith)),
+  );
+}
 
-pub returns-then-beyond : goal.returns-then-beyond
-returns-then-beyond g c = λ few sound. let b = c.args.board.now in (
-  no_signal ((decided c.signals.result b.signals c.args.edit c.beyond.result c.signals.ensures c.beyond.ensures).0 c.if-beyond.true),
+pub returns-then-beyond-clause-checks : goal.returns-then-beyond-clause-checks
+returns-then-beyond-clause-checks g c = λ few sound. let b = c.args.board.now in (
+  no_signal ((decided c.signals.result b.signals c.args.edit c.beyond.result c.signals.ensures.signals c.beyond.ensures).0 c.if-beyond.true),
   omega arith,
   no_less b.signals (levels b.words) (netlist_of b.signals b.words.image) c.args.edit 12 (omega arith)
       (λ _ z. absurd (omega (arith, c.levels.ensures)))
@@ -39,13 +42,13 @@ returns-then-beyond g c = λ few sound. let b = c.args.board.now in (
       (λ lt _. absurd (omega arith)),
 )
 
-pub returns-then-unranged : goal.returns-then-unranged
-returns-then-unranged g c = λ few sound. let b = c.args.board.now in (
+pub returns-then-unranged-clause-checks : goal.returns-then-unranged-clause-checks
+returns-then-unranged-clause-checks g c = λ few sound. let b = c.args.board.now in (
   out_of_range (c.unranged.ensures.0 c.if-unranged.true),
   omega arith,
   no_less b.signals (levels b.words) (netlist_of b.signals b.words.image) c.args.edit 13 (omega arith)
       (λ _ z. absurd (omega (arith, c.levels.ensures)))
-      (λ _. not_from_Decides c.beyond.result (decided c.signals.result b.signals c.args.edit c.beyond.result c.signals.ensures c.beyond.ensures) c.if-beyond.false)
+      (λ _. not_from_Decides c.beyond.result (decided c.signals.result b.signals c.args.edit c.beyond.result c.signals.ensures.signals c.beyond.ensures) c.if-beyond.false)
       (λ lt _. absurd (omega arith))
       (λ lt _. absurd (omega arith))
       (λ lt _. absurd (omega arith))
@@ -53,13 +56,13 @@ returns-then-unranged g c = λ few sound. let b = c.args.board.now in (
       (λ lt _. absurd (omega arith)),
 )
 
-pub returns-then-driven_already : goal.returns-then-driven_already
-returns-then-driven_already g c = λ few sound. let b = c.args.board.now in (
+pub returns-then-driven_already-clause-checks : goal.returns-then-driven_already-clause-checks
+returns-then-driven_already-clause-checks g c = λ few sound. let b = c.args.board.now in (
   driven (c.driven_already.ensures.0 c.if-driven_already.true),
   omega arith,
   no_less b.signals (levels b.words) (netlist_of b.signals b.words.image) c.args.edit 14 (omega arith)
       (λ _ z. absurd (omega (arith, c.levels.ensures)))
-      (λ _. not_from_Decides c.beyond.result (decided c.signals.result b.signals c.args.edit c.beyond.result c.signals.ensures c.beyond.ensures) c.if-beyond.false)
+      (λ _. not_from_Decides c.beyond.result (decided c.signals.result b.signals c.args.edit c.beyond.result c.signals.ensures.signals c.beyond.ensures) c.if-beyond.false)
       (λ _. not_from_Decides c.unranged.result c.unranged.ensures c.if-unranged.false)
       (λ lt _. absurd (omega arith))
       (λ lt _. absurd (omega arith))
@@ -67,13 +70,13 @@ returns-then-driven_already g c = λ few sound. let b = c.args.board.now in (
       (λ lt _. absurd (omega arith)),
 )
 
-pub returns-then-wrong_kind : goal.returns-then-wrong_kind
-returns-then-wrong_kind g c = λ few sound. let b = c.args.board.now in (
+pub returns-then-wrong_kind-clause-checks : goal.returns-then-wrong_kind-clause-checks
+returns-then-wrong_kind-clause-checks g c = λ few sound. let b = c.args.board.now in (
   wrong_kind (c.wrong_kind.ensures.0 c.if-wrong_kind.true),
   omega arith,
   no_less b.signals (levels b.words) (netlist_of b.signals b.words.image) c.args.edit 15 (omega arith)
       (λ _ z. absurd (omega (arith, c.levels.ensures)))
-      (λ _. not_from_Decides c.beyond.result (decided c.signals.result b.signals c.args.edit c.beyond.result c.signals.ensures c.beyond.ensures) c.if-beyond.false)
+      (λ _. not_from_Decides c.beyond.result (decided c.signals.result b.signals c.args.edit c.beyond.result c.signals.ensures.signals c.beyond.ensures) c.if-beyond.false)
       (λ _. not_from_Decides c.unranged.result c.unranged.ensures c.if-unranged.false)
       (λ _. not_from_Decides c.driven_already.result c.driven_already.ensures c.if-driven_already.false)
       (λ lt _. absurd (omega arith))
@@ -81,13 +84,13 @@ returns-then-wrong_kind g c = λ few sound. let b = c.args.board.now in (
       (λ lt _. absurd (omega arith)),
 )
 
-pub returns-then-pin_beyond : goal.returns-then-pin_beyond
-returns-then-pin_beyond g c = λ few sound. let b = c.args.board.now in (
-  no_pin ((c.pin_beyond.ensures few sound).0 c.if-pin_beyond.true),
+pub returns-then-pin_beyond-clause-checks : goal.returns-then-pin_beyond-clause-checks
+returns-then-pin_beyond-clause-checks g c = λ few sound. let b = c.args.board.now in (
+  no_pin ((c.pin_beyond.ensures.beyond sound).0 c.if-pin_beyond.true),
   omega arith,
   no_less b.signals (levels b.words) (netlist_of b.signals b.words.image) c.args.edit 16 (omega arith)
       (λ _ z. absurd (omega (arith, c.levels.ensures)))
-      (λ _. not_from_Decides c.beyond.result (decided c.signals.result b.signals c.args.edit c.beyond.result c.signals.ensures c.beyond.ensures) c.if-beyond.false)
+      (λ _. not_from_Decides c.beyond.result (decided c.signals.result b.signals c.args.edit c.beyond.result c.signals.ensures.signals c.beyond.ensures) c.if-beyond.false)
       (λ _. not_from_Decides c.unranged.result c.unranged.ensures c.if-unranged.false)
       (λ _. not_from_Decides c.driven_already.result c.driven_already.ensures c.if-driven_already.false)
       (λ _. not_from_Decides c.wrong_kind.result c.wrong_kind.ensures c.if-wrong_kind.false)
@@ -95,27 +98,27 @@ returns-then-pin_beyond g c = λ few sound. let b = c.args.board.now in (
       (λ lt _. absurd (omega arith)),
 )
 
-pub returns-then-still_used : goal.returns-then-still_used
-returns-then-still_used g c = λ few sound. let b = c.args.board.now in (
+pub returns-then-still_used-clause-checks : goal.returns-then-still_used-clause-checks
+returns-then-still_used-clause-checks g c = λ few sound. let b = c.args.board.now in (
   in_use ((c.still_used.ensures sound).0 c.if-still_used.true),
   omega arith,
   no_less b.signals (levels b.words) (netlist_of b.signals b.words.image) c.args.edit 19 (omega arith)
       (λ _ z. absurd (omega (arith, c.levels.ensures)))
-      (λ _. not_from_Decides c.beyond.result (decided c.signals.result b.signals c.args.edit c.beyond.result c.signals.ensures c.beyond.ensures) c.if-beyond.false)
+      (λ _. not_from_Decides c.beyond.result (decided c.signals.result b.signals c.args.edit c.beyond.result c.signals.ensures.signals c.beyond.ensures) c.if-beyond.false)
       (λ _. not_from_Decides c.unranged.result c.unranged.ensures c.if-unranged.false)
       (λ _. not_from_Decides c.driven_already.result c.driven_already.ensures c.if-driven_already.false)
       (λ _. not_from_Decides c.wrong_kind.result c.wrong_kind.ensures c.if-wrong_kind.false)
-      (λ _. not_from_Decides c.pin_beyond.result (c.pin_beyond.ensures few sound) c.if-pin_beyond.false)
+      (λ _. not_from_Decides c.pin_beyond.result (c.pin_beyond.ensures.beyond sound) c.if-pin_beyond.false)
       (λ lt _. absurd (omega arith)),
 )
 
-pub returns : goal.returns
-returns g c = λ few sound. let b = c.args.board.now in
+pub returns-clause-checks : goal.returns-clause-checks
+returns-clause-checks g c = λ few sound. let b = c.args.board.now in
     no_less b.signals (levels b.words) (netlist_of b.signals b.words.image) c.args.edit 25 (omega arith)
     (λ _ z. absurd (omega (arith, c.levels.ensures)))
-    (λ _. not_from_Decides c.beyond.result (decided c.signals.result b.signals c.args.edit c.beyond.result c.signals.ensures c.beyond.ensures) c.if-beyond.false)
+    (λ _. not_from_Decides c.beyond.result (decided c.signals.result b.signals c.args.edit c.beyond.result c.signals.ensures.signals c.beyond.ensures) c.if-beyond.false)
     (λ _. not_from_Decides c.unranged.result c.unranged.ensures c.if-unranged.false)
     (λ _. not_from_Decides c.driven_already.result c.driven_already.ensures c.if-driven_already.false)
     (λ _. not_from_Decides c.wrong_kind.result c.wrong_kind.ensures c.if-wrong_kind.false)
-    (λ _. not_from_Decides c.pin_beyond.result (c.pin_beyond.ensures few sound) c.if-pin_beyond.false)
+    (λ _. not_from_Decides c.pin_beyond.result (c.pin_beyond.ensures.beyond sound) c.if-pin_beyond.false)
     (λ _. not_from_Decides c.still_used.result (c.still_used.ensures sound) c.if-still_used.false)

@@ -6,5 +6,5 @@ abbrev pub invariant-loop-pin : goal.invariant-loop-pin
 invariant-loop-pin g l =
     let m = l.initial.board.signals in
     let ws = l.initial.board.words.image in
-    (Wirable m ws l.signal l.pins l.fn.nets → Changed m ws l.signal (as_wired (cell_at m ws l.signal) l.pin l.fn.nets) l.board.words.image)
+    (Wirable m ws l.signal.number l.pins l.fn.nets → Changed m ws l.signal.number (as_wired (cell_at m ws l.signal.number) l.pin l.fn.nets) l.board.words.image)
     × OnlyWords l.initial.board l.board

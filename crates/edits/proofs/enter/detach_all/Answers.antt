@@ -7,7 +7,7 @@ use Rattle.edits.proofs.enter.detach_all.Goals as goal
 
 pub loop-pin-init : goal.loop-pin-init
 loop-pin-init g c =
-    let b = c.args.board.now in (λ site. unwired_none b.signals b.words.image c.args.signal site, only_words-refl b)
+    let b = c.args.board.now in (λ site. unwired_none b.signals b.words.image c.args.signal.number site, only_words-refl b)
 
 pub loop-pin-preserved : goal.loop-pin-preserved
 loop-pin-preserved g c =
@@ -16,10 +16,9 @@ loop-pin-preserved g c =
     let i = c.loop-pin.pin in (
       λ site.
           let four : i < 4 = omega arith in
-          let low : c.args.signal < 1024 = omega (arith, site.below, site.few) in
-          unwired_more b.signals b.words.image c.args.signal site i c.pin_number.result
-          l.words.image c.release.new.board.words.image four (c.pin_number.ensures.number low four) (c.loop-pin.invariant.0 site)
-          (releases-same l.signals b.signals l.words.image c.pin_number.result c.release.new.board.words.image c.loop-pin.invariant.1.stays.signals c.release.ensures.releases),
+          unwired_more b.signals b.words.image c.args.signal.number site i c.pin.result
+          l.words.image c.release.new.board.words.image four c.pin.ensures (c.loop-pin.invariant.0 site)
+          (releases-same l.signals b.signals l.words.image c.pin.result c.release.new.board.words.image c.loop-pin.invariant.1.stays.signals c.release.ensures.releases),
       only_words-trans b l c.release.new.board c.loop-pin.invariant.1 c.release.ensures.only,
     )
 
@@ -29,7 +28,7 @@ returns g c =
     record {
       detaches = λ site.
           let all : c.loop-pin.pin ≡ 4 = omega arith in
-          subst (λ k. Changed b.signals b.words.image c.args.signal (as_unwired (cell_at b.signals b.words.image c.args.signal) k) c.loop-pin.board.words.image) all
+          subst (λ k. Changed b.signals b.words.image c.args.signal.number (as_unwired (cell_at b.signals b.words.image c.args.signal.number) k) c.loop-pin.board.words.image) all
           (c.loop-pin.invariant.0 site);
       only = c.loop-pin.invariant.1;
     }

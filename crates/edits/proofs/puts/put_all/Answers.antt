@@ -1,4 +1,4 @@
-use Rattle.std.proofs.Common.{◌≡◌, ℕ, get_or, take, Ok, Err, Result, sym, ap, ◌∙◌, subst, arith}
+use Rattle.std.proofs.Common.{◌≡◌, ℕ, get_or, take, Ok, Err, Result, sym, refl, ap, ◌∙◌, subst, arith}
 use Rattle.std.proofs.lemmas.Result.{err_from_is_err_and}
 use Rattle.words.specs.Meaning.{Meaning}
 use Rattle.reach.specs.Listed.{along}
@@ -18,7 +18,7 @@ put-same k m before s a after r e h = subst (λ n. Ready n before.image s a → 
 pub loop-net-init : goal.loop-net-init
 loop-net-init g c =
     let b = c.args.board.now in
-    (λ r. so_far_none b.signals b.words.image c.args.gate c.args.nets.now r, only_words-refl b, c.clear.ensures)
+    (λ r. so_far_none b.signals b.words.image c.args.gate c.args.nets.now r, only_words-refl b, refl)
 
 pub loop-net-preserved : goal.loop-net-preserved
 loop-net-preserved g c =
@@ -31,7 +31,7 @@ loop-net-preserved g c =
           c.loop-net.invariant.1.stays.signals c.in_ok-put_pin.ensures.puts)
           c.saturating_add-total.ensures,
       only_words-trans b l c.put_pin.new.board c.loop-net.invariant.1 c.put_pin.ensures.only,
-      c.put_pin.ensures.clean,
+      c.put_pin.ensures.lent ∙ c.loop-net.invariant.2,
     )
 
 pub returns-in_err-put_pin-clause-puts : goal.returns-in_err-put_pin-clause-puts
@@ -47,7 +47,7 @@ returns-in_err-put_pin-clause-puts g c =
     (placed_ready b.signals b.words.image c.args.gate c.args.nets.now (take c.loop-net.net-index c.args.nets.now) l.words.image c.loop-net.total r h.placed a among) in
     let (e, is, same) = err_from_is_err_and c.from_residual.result c.from_residual.ensures.1 in
     subst (PutsPins b.signals b.words c.args.gate c.args.nets.now c.put_pin.new.board.words) (sym (is ∙ ap Err same))
-    (a, among, subst (λ n. Loop n (along path)) h.placed.netlist put.1)
+    (subst (λ n. Loop n (along path)) h.placed.netlist put.1)
 
 pub returns : goal.returns
 returns g c =
@@ -55,5 +55,5 @@ returns g c =
     record {
       puts = λ r. so_far_all b.signals b.words.image c.args.gate c.args.nets.now c.loop-net.net-index c.loop-net.board.words.image c.loop-net.total (omega arith) (c.loop-net.invariant.0 r);
       only = c.loop-net.invariant.1;
-      clean = c.loop-net.invariant.2;
+      lent = c.loop-net.invariant.2;
     }

@@ -1,4 +1,4 @@
-use Rattle.std.proofs.Common.{◌≡◌, replicate}
+use Rattle.std.proofs.Common.{◌≡◌}
 use Rattle.board.specs.Stored.{OnlyWords}
 use Rattle.edits.specs.Puts.{ReadyAll}
 use Rattle.edits.proofs.Putting.{PutSoFar}
@@ -9,4 +9,4 @@ invariant-loop-net g l =
     let m = l.initial.board.signals in
     let ws = l.initial.board.words.image in
     (ReadyAll m ws l.gate l.nets → PutSoFar m ws l.gate l.nets l.net-index l.board.words.image l.total)
-    × OnlyWords l.initial.board l.board × (l.flags ≡ replicate 1024 0)
+    × OnlyWords l.initial.board l.board × (l.flags.table.ghost_name ≡ l.initial.flags.table.ghost_name)

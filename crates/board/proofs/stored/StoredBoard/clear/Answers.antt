@@ -1,11 +1,8 @@
-use Rattle.std.proofs.Common.{length, refl, ap, ◌∙◌, arith}
+use Rattle.std.proofs.Common.{length, ap, ◌∙◌, arith}
 use Rattle.std.proofs.lemmas.List.{length-set}
 use Rattle.board.specs.Layout.{word}
-use Rattle.board.proofs.Writes.{only_words-refl, only_words-trans, only_words-set, zeros_more, zeros_all}
+use Rattle.board.proofs.Writes.{only_words-trans, only_words-set, zeros_more, zeros_all}
 use Rattle.board.proofs.stored.StoredBoard.clear.Goals as goal
-
-pub loop-at-init : goal.loop-at-init
-loop-at-init g c = (only_words-refl c.args.self.now, refl, λ k lt. absurd (omega arith))
 
 pub loop-at-preserved : goal.loop-at-preserved
 loop-at-preserved g c =
@@ -19,6 +16,6 @@ loop-at-preserved g c =
 pub returns : goal.returns
 returns g c = record {
   cleared = zeros_all c.args.self.now c.loop-at.self c.loop-at.at c.loop-at.invariant.0 c.loop-at.invariant.1 c.loop-at.invariant.2
-      (omega (arith, c.size-at-end.ensures, c.loop-at-test.false));
+      (omega (arith, c.size-at-end.ensures.size, c.loop-at-test.false));
   only = c.loop-at.invariant.0;
 }
