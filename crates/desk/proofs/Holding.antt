@@ -57,7 +57,7 @@ backed_by : (m : ℕ) (a a' : Meaning) (c : Call) (r : Result ℕ Refusal) (held
 backed_by m a a' c (Ok count) held held' serves hand backed =
     ⊎_elim
     (λ some. still_backed m a a' c count held held' some (serves.some some) hand backed)
-    (λ le. absurd (let refused = (serves.none (omega arith)).0 in cc))
+    (λ le. absurd (serves.none (omega arith)).0)
     (cases_lt 0 m)
 backed_by m a a' c (Err r) held held' serves hand backed =
     subst (Backed m a') (sym hand)

@@ -1,6 +1,7 @@
 -- From what the editor's call says to what the desk's says.
 use Rattle.std.proofs.Common.{◌≡◌, ◌∙◌, ℕ, Some, None, Option, IsSome, is_some, Ok, Err, Result, sym, refl, ap, subst}
 use Rattle.netlist.specs.declared.edit.Refusal.{Refusal}
+use Rattle.netlist.specs.Refusals.{number}
 use Rattle.editor.specs.declared.call.Call.{Call}
 use Rattle.editor.specs.declared.call.Call.TheVariants.{Keep, Drop}
 use Rattle.editor.specs.declared.ticket.Ticket.{Ticket}
@@ -32,18 +33,16 @@ closed_at_hand c held held' ticket (Ok _) hands was is back = hands (ap is_some 
 closed_at_hand c held held' ticket (Err b) hands was is back = is ∙ ap Some back ∙ was
 
 -- nothing is handed in where no ticket is at hand
-without : (d₀ d : State) (held' : Option Ticket) (c : Call) (r : Refusal) → d ≡ d₀ → None ≡ d.held → held' ≡ None → r ≡ ticketless d.editor.signals → AtHand c None None (Err r)
-    → Called d.editor c d.editor (Err (ticketless d.editor.signals)) → Plays d₀ c (with_ticket d held') (Err r)
-without d₀ d held' c r is none gone reply hand called =
-    subst (λ x. Plays x c (with_ticket d held') (Err r)) is
-    (record { called = subst (λ x. Called d.editor c d.editor (Err x)) (sym reply) called; hand = gone ∙ none })
+without : (d₀ d : State) (held' : Option Ticket) (c : Call) (r : Refusal) → d ≡ d₀ → None ≡ d.held → held' ≡ None → Called d.editor c d.editor (Err r)
+    → Plays d₀ c (with_ticket d held') (Err r)
+without d₀ d held' c r is none gone called = subst (λ x. Plays x c (with_ticket d held') (Err r)) is (record { called = called; hand = gone ∙ none })
 
-pub keeps_without : (d₀ d : State) (held' : Option Ticket) (r : Refusal) → d ≡ d₀ → None ≡ d.held → held' ≡ None → r ≡ ticketless d.editor.signals → InOrder d.editor.signals d.editor.words
+pub keeps_without : (d₀ d : State) (held' : Option Ticket) (r : Refusal) → d ≡ d₀ → None ≡ d.held → held' ≡ None → number r ≡ ticketless d.editor.signals → InOrder d.editor.signals d.editor.words
     → Backed d.editor.signals d.editor.words d.held → Plays d₀ Keep (with_ticket d held') (Err r)
 keeps_without d₀ d held' r is none gone reply order h =
-    without d₀ d held' Keep r is none gone reply refl (keep_without d.editor order (subst (Backed d.editor.signals d.editor.words) (sym none) h))
+    without d₀ d held' Keep r is none gone (keep_without d.editor r reply order (subst (Backed d.editor.signals d.editor.words) (sym none) h))
 
-pub drops_without : (d₀ d : State) (held' : Option Ticket) (r : Refusal) → d ≡ d₀ → None ≡ d.held → held' ≡ None → r ≡ ticketless d.editor.signals → InOrder d.editor.signals d.editor.words
+pub drops_without : (d₀ d : State) (held' : Option Ticket) (r : Refusal) → d ≡ d₀ → None ≡ d.held → held' ≡ None → number r ≡ ticketless d.editor.signals → InOrder d.editor.signals d.editor.words
     → Backed d.editor.signals d.editor.words d.held → Plays d₀ Drop (with_ticket d held') (Err r)
 drops_without d₀ d held' r is none gone reply order h =
-    without d₀ d held' Drop r is none gone reply refl (drop_without d.editor order (subst (Backed d.editor.signals d.editor.words) (sym none) h))
+    without d₀ d held' Drop r is none gone (drop_without d.editor r reply order (subst (Backed d.editor.signals d.editor.words) (sym none) h))

@@ -4,36 +4,19 @@ use Rattle.std.proofs.lemmas.Bool.{cases_lt}
 use Rattle.std.specs.Result.{result_err}
 use Rattle.words.specs.Meaning.{Meaning, levels}
 use Rattle.netlist.specs.declared.edit.Refusal.{Refusal}
-use Rattle.netlist.specs.declared.edit.Refusal.TheVariants.{NoEditor, NoBatch, BatchOpen, NoSuchSignal, OutOfRange, Driven, NotDriven, NoSuchPin, InUse, NoLevelForMark, NoMark, MarkOpen, AbsentInUse, Looped}
 use Rattle.netlist.specs.Refusals.{number}
 use Rattle.editor.specs.declared.call.Call.{Call}
 use Rattle.editor.specs.declared.ticket.Ticket.{Ticket}
 use Rattle.editor.specs.declared.ticket.Returned.{Returned}
-use Rattle.editor.specs.Calls.{Refuses, Replies, Serves}
+use Rattle.editor.specs.Calls.{RefusedWith, Refuses, Replies, Serves}
 use Rattle.editor.specs.Plain.{plain}
 use Rattle.editor.specs.State.{State as EditorState}
 use Rattle.editor.specs.Steps.{Called, HandsBack, closed}
 use Rattle.editor.proofs.Calling.{shown_kept}
 use Rattle.editor.proofs.Stepping.{NoEdit}
 use Rattle.desk.specs.Held.{Backed, left}
-use Rattle.desk.specs.Plays.{returned_with, ticketless, with_ticket}
+use Rattle.desk.specs.Plays.{returned_with, number_told, ticketless, with_ticket}
 use Rattle.desk.specs.State.{State}
-
-ten_no_batch : (r : Refusal) → number r ≡ 10 → r ≡ NoBatch
-ten_no_batch NoEditor h = absurd (omega (arith, h))
-ten_no_batch NoBatch h = refl
-ten_no_batch BatchOpen h = absurd (omega (arith, h))
-ten_no_batch NoSuchSignal h = absurd (omega (arith, h))
-ten_no_batch OutOfRange h = absurd (omega (arith, h))
-ten_no_batch Driven h = absurd (omega (arith, h))
-ten_no_batch NotDriven h = absurd (omega (arith, h))
-ten_no_batch NoSuchPin h = absurd (omega (arith, h))
-ten_no_batch InUse h = absurd (omega (arith, h))
-ten_no_batch NoLevelForMark h = absurd (omega (arith, h))
-ten_no_batch NoMark h = absurd (omega (arith, h))
-ten_no_batch MarkOpen h = absurd (omega (arith, h))
-ten_no_batch AbsentInUse h = absurd (omega (arith, h))
-ten_no_batch Looped h = absurd (omega (arith, h))
 
 -- where 10 applies and nothing below, it is the reply
 ten : (k : ℕ) → (k < 10 → ⊥) → (10 < k → ⊥) → k ≡ 10
@@ -41,13 +24,12 @@ ten k low high = ⊎_elim (λ lt. absurd (low lt)) (λ ge. ⊎_elim (λ lt. absu
 
 -- what a call that closes a batch replies where none is open
 replies_ten : (m : ℕ) (a a' : Meaning) (c : Call) (r : Result ℕ Refusal) → Refuses m a c 10 → ((k : ℕ) → k < 10 → Refuses m a c k → ⊥) → Replies m a c a' r
-    → (r ≡ Err NoBatch) × (a' ≡ a)
+    → RefusedWith 10 r × (a' ≡ a)
 replies_ten m a a' c (Ok count) some low h = absurd (h.0 10 some)
-replies_ten m a a' c (Err r) some low h =
-    (ap Err (ten_no_batch r (ten (number r) (λ lt. low (number r) lt h.0) (λ lt. h.1 10 lt some))), h.2)
+replies_ten m a a' c (Err r) some low h = (ten (number r) (λ lt. low (number r) lt h.0) (λ lt. h.1 10 lt some), h.2)
 
 serves_closing : (m : ℕ) (a a' : Meaning) (c : Call) (r : Result ℕ Refusal) → (levels a ≡ 0 → Refuses m a c 10) → ((k : ℕ) → k < 10 → Refuses m a c k → ⊥) → (0 < m → levels a ≡ 0)
-    → Serves m a c a' r → (r ≡ Err (ticketless m)) × (a' ≡ a)
+    → Serves m a c a' r → RefusedWith (ticketless m) r × (a' ≡ a)
 serves_closing zero a a' c r some low shut h = h.none refl
 serves_closing (suc m) a a' c r some low shut h =
     let lt : 0 < suc m = omega arith in replies_ten (suc m) a a' c r (some (shut lt)) low (h.some lt)
@@ -55,25 +37,25 @@ serves_closing (suc m) a a' c r some low shut h =
 -- the other desk: its editor refuses, and is as it was
 pub refused_there : (e e' : EditorState) (c : Call) (r : Result ℕ Refusal) (held : Option Ticket) → NoEdit c → (levels e.words ≡ 0 → Refuses e.signals e.words c 10)
     → ((k : ℕ) → k < 10 → Refuses e.signals e.words c k → ⊥) → false ≡ is_some held → Called e c e' r → Backed e.signals e.words held
-    → (r ≡ Err (ticketless e.signals)) × (e' ≡ e)
+    → RefusedWith (ticketless e.signals) r × (e' ≡ e)
 refused_there e e' c r None other some low shut called h =
     let (is, words) = serves_closing e.signals e.words e'.words c r some low h called.serves in
     (is, λ i. record { signals = called.signals i; words = words i; lent = called.behind i; shown = shown_kept e c r e'.shown other called.shown i })
 refused_there e e' c r (Some ticket) other some low shut called h = absurd cc
 
 -- the desk: its ticket is back
-pub back_at_hand : (r : Result (Unit {0}) Returned) (t : Refusal) (held held' : Option Ticket) (ticket : Ticket) → closed r ≡ Err t → HandsBack ticket r → Some ticket ≡ held → held' ≡ left r
+pub back_at_hand : (r : Result (Unit {0}) Returned) (k : ℕ) (held held' : Option Ticket) (ticket : Ticket) → RefusedWith k (closed r) → HandsBack ticket r → Some ticket ≡ held → held' ≡ left r
     → held' ≡ held
-back_at_hand (Ok _) t held held' ticket is back was now = absurd cc
-back_at_hand (Err b) t held held' ticket is back was now = now ∙ ap Some back ∙ was
+back_at_hand (Ok _) k held held' ticket is back was now = absurd is
+back_at_hand (Err b) k held held' ticket is back was now = now ∙ ap Some back ∙ was
 
 pub unchanged : (d₀ d : State) (held' : Option Ticket) → d ≡ d₀ → held' ≡ d.held → with_ticket d held' ≡ d₀
 unchanged d₀ d held' is same = ap (with_ticket d) same ∙ is
 
 -- what is told of it
-pub told : (o : Option Refusal) (r : Result (Unit {0}) Refusal) (t : Refusal) → o ≡ result_err r → plain r ≡ Err t → o ≡ Some t
-told o (Ok _) t is reply = absurd cc
-told o (Err e) t is reply = is ∙ (let same : e ≡ t = cc in ap Some same)
+pub told : (o : Option Refusal) (r : Result (Unit {0}) Refusal) (k : ℕ) → o ≡ result_err r → RefusedWith k (plain r) → number_told o ≡ Some k
+told o (Ok _) k is reply = absurd reply
+told o (Err e) k is reply = ap number_told is ∙ ap Some reply
 
 none_there : (o : Option Ticket) (m : ℕ) (ticket : Ticket) → false ≡ is_some o → Some (ticketless m) ≡ returned_with (Some ticket) m o
 none_there None m ticket n = refl

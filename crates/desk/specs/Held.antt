@@ -4,7 +4,7 @@ use Rattle.words.specs.Meaning.{Meaning, levels}
 use Rattle.editor.specs.declared.ticket.Ticket.{Ticket}
 use Rattle.editor.specs.declared.ticket.Returned.{Returned}
 
--- a ticket is at hand exactly while a batch is open
+-- a ticket is at hand exactly while a batch is open in an editor with signals
 abbrev pub Backed : ℕ → Meaning → Option Ticket → Type 0
 Backed m a None = 0 < m → levels a ≡ 0
 Backed m a (Some ticket) = (0 < m) × (0 < levels a)

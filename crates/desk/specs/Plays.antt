@@ -3,7 +3,7 @@ use Rattle.std.specs.Prelude.{◌≡◌, ℕ, Bool, true, false, zero, suc, List
 use Rattle.netlist.specs.declared.edit.Edit.{Edit}
 use Rattle.netlist.specs.declared.edit.Edit.TheVariants.{Input, Output, Gate, Latch, Delete, Move}
 use Rattle.netlist.specs.declared.edit.Refusal.{Refusal}
-use Rattle.netlist.specs.declared.edit.Refusal.TheVariants.{NoEditor, NoBatch}
+use Rattle.netlist.specs.Refusals.{number}
 use Rattle.editor.specs.declared.call.Call.{Call}
 use Rattle.editor.specs.declared.call.Call.TheVariants.{Begin, Mark, KeepMark, DropMark, Keep, Drop, Make}
 use Rattle.editor.specs.declared.ticket.Ticket.{Ticket}
@@ -32,10 +32,10 @@ pub record Plays (d : State) (c : Call) (d' : State) (r : Result ℕ Refusal) : 
   pub called : Called d.editor c d'.editor r
   pub hand : AtHand c d.held d'.held r
 
--- what a keep or a drop is refused with where no ticket is at hand
-abbrev pub ticketless : ℕ → Refusal
-ticketless zero = NoEditor
-ticketless (suc m) = NoBatch
+-- the number that a keep or a drop is refused with where no ticket is at hand: by an editor of no signals, and by any other
+abbrev pub ticketless : ℕ → ℕ
+ticketless zero = 1
+ticketless (suc m) = 10
 
 -- the flags after a call: those of an edit are cleared
 abbrev pub Clears : Call → List ℕ → List ℕ → Type 0
@@ -64,10 +64,15 @@ closing e (Some ticket) = record e { words = emptied e.words }
 -- ---- tickets of another desk
 
 -- What a desk that has no ticket at hand refuses another's with. Nothing is handed in where there is no ticket, or where the other desk has one.
-abbrev pub returned_with : Option Ticket → ℕ → Option Ticket → Option Refusal
+abbrev pub returned_with : Option Ticket → ℕ → Option Ticket → Option ℕ
 returned_with None m other = None
 returned_with (Some ticket) m None = Some (ticketless m)
 returned_with (Some ticket) m (Some other) = None
+
+-- the number of a refusal, if there is one
+abbrev pub number_told : Option Refusal → Option ℕ
+number_told None = None
+number_told (Some r) = Some (number r)
 
 -- the desk with another ticket, or none, at hand
 abbrev pub with_ticket : State → Option Ticket → State

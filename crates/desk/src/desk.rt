@@ -1,12 +1,14 @@
 // The desk: an editor over any store, and the ticket of its open batch.
 ghost use Rattle.std.specs.Prelude.{◌≡◌, [], replicate, IfOk};
 ghost use Rattle.netlist.specs.Netlist.{Whole};
+ghost use Rattle.netlist.specs.Refusals.{number};
 ghost use Rattle.board.specs.Board.{netlist_of};
 ghost use Rattle.editor.specs.declared.call.Call.TheVariants.{Begin, Mark, KeepMark, DropMark, Keep, Drop, Make};
+ghost use Rattle.editor.specs.Calls.{RefusedWith};
 ghost use Rattle.editor.specs.Made.{Starts};
 ghost use Rattle.editor.specs.Plain.{plain};
 ghost use Rattle.editor.specs.Steps.{InOrder, closed as closed_reply};
-ghost use Rattle.desk.specs.Plays.{Plays, Clears, ClearsNamed, ticketless, closing, returned_with, Swaps};
+ghost use Rattle.desk.specs.Plays.{Plays, Clears, ClearsNamed, ticketless, closing, returned_with, number_told, Swaps};
 ghost use Rattle.desk.specs.Held.{Backed, left};
 
 use editor::{Call, Editor, Returned, Ticket};
@@ -82,7 +84,7 @@ impl<S: Store> Desk<S> {
     pub fn keep(&mut self) -> Result<(), Refusal>
         ensures plays { Plays self.old Keep self.new (plain result) }
         ensures whole { IfOk result (λ _. Whole (netlist_of self.new.editor.signals self.new.editor.words.image)) }
-        ensures without { self.old.held ≡ None → result ≡ Err (ticketless self.old.editor.signals) }
+        ensures without { self.old.held ≡ None → RefusedWith (ticketless self.old.editor.signals) (plain result) }
     {
         match self.held.take() {
             None => Err(no_ticket(&self.editor)),
@@ -93,7 +95,7 @@ impl<S: Store> Desk<S> {
     // It and `keep` differ in one call of the editor; a closure over that would need a contract as long as either.
     pub fn drop_batch(&mut self) -> Result<(), Refusal>
         ensures plays { Plays self.old Drop self.new (plain result) }
-        ensures without { self.old.held ≡ None → result ≡ Err (ticketless self.old.editor.signals) }
+        ensures without { self.old.held ≡ None → RefusedWith (ticketless self.old.editor.signals) (plain result) }
     {
         match self.held.take() {
             None => Err(no_ticket(&self.editor)),
@@ -161,7 +163,7 @@ impl<S: Store> Desk<S> {
     // What an editor without a batch refuses the ticket at hand with, when it is to keep. It is handed back. None where nothing is handed in;
     // no such editor accepts a ticket, so there is no success to tell.
     pub fn keep_at<B: Store>(&mut self, other: &mut Desk<B>) -> Option<Refusal>
-        ensures told { result ≡ returned_with self.old.held other.old.editor.signals other.old.held }
+        ensures told { number_told result ≡ returned_with self.old.held other.old.editor.signals other.old.held }
         ensures own { self.new ≡ self.old }
         ensures other { other.new ≡ other.old }
     {
@@ -174,7 +176,7 @@ impl<S: Store> Desk<S> {
 
     // The same when it is to drop. It is apart from `keep_at` as `drop_batch` is from `keep`.
     pub fn drop_at<B: Store>(&mut self, other: &mut Desk<B>) -> Option<Refusal>
-        ensures told { result ≡ returned_with self.old.held other.old.editor.signals other.old.held }
+        ensures told { number_told result ≡ returned_with self.old.held other.old.editor.signals other.old.held }
         ensures own { self.new ≡ self.old }
         ensures other { other.new ≡ other.old }
     {
@@ -232,7 +234,7 @@ fn closed(held: &mut Option<Ticket>, reply: Result<(), Returned>) -> Result<(), 
 
 // What keep and drop reply where there is no ticket to hand in.
 fn no_ticket<S: Store>(editor: &Editor<S>) -> Refusal
-    ensures reply { result ≡ ticketless editor.now.signals }
+    ensures reply { number result ≡ ticketless editor.now.signals }
     ensures order { InOrder editor.now.signals editor.now.words }
 {
     if editor.signals() == 0 {

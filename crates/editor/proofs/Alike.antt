@@ -1,41 +1,20 @@
 -- Editors of one M whose stores tell equal words, equal D and as many open levels reply alike.
-use Rattle.std.proofs.Common.{◌≡◌, ℕ, zero, suc, cond, eqb, Ok, Err, Result, sym, refl, ap, ◌∙◌, subst₂, ⊎_elim, arith}
+use Rattle.std.proofs.Common.{◌≡◌, ℕ, zero, suc, Ok, Err, Result, sym, refl, ap, ◌∙◌, subst₂, ⊎_elim, arith}
 use mathlib.Core.Path.{subst₃}
 use Rattle.std.proofs.lemmas.Bool.{cases_order}
 use Rattle.words.specs.Meaning.{Meaning, levels}
 use Rattle.netlist.specs.declared.edit.Edit.{Edit}
 use Rattle.netlist.specs.declared.edit.Refusal.{Refusal}
-use Rattle.netlist.specs.declared.edit.Refusal.TheVariants.{NoEditor, NoBatch, BatchOpen, NoSuchSignal, OutOfRange, Driven, NotDriven, NoSuchPin, InUse, NoLevelForMark, NoMark, MarkOpen, AbsentInUse, Looped}
 use Rattle.netlist.specs.Refusals.{number}
 use Rattle.netlist.specs.Edits.{Edits}
-use Rattle.netlist.proofs.Determined.{edits_determined}
+use Rattle.netlist.proofs.Determined.{edits_determined, same-refusal}
 use Rattle.board.specs.Board.{netlist_of, board_of}
 use Rattle.editor.specs.declared.call.Call.{Call}
 use Rattle.editor.specs.declared.call.Call.TheVariants.{Begin, Mark, KeepMark, DropMark, Keep, Drop, Make}
-use Rattle.editor.specs.Calls.{Declines, Refuses, Replies, EqualWordsReplyAlike}
-
--- the refusal that has a number
-abbrev refusal_of : ℕ → Refusal
-refusal_of k = cond (eqb k 1) NoEditor (cond (eqb k 10) NoBatch (cond (eqb k 11) BatchOpen (cond (eqb k 12) NoSuchSignal (cond (eqb k 13) OutOfRange (cond (eqb k 14) Driven (cond (eqb k 15) NotDriven (cond (eqb k 16) NoSuchPin (cond (eqb k 19) InUse (cond (eqb k 20) NoLevelForMark (cond (eqb k 21) NoMark (cond (eqb k 22) MarkOpen (cond (eqb k 24) AbsentInUse (Looped)))))))))))))
-
-refusal-of : (r : Refusal) → refusal_of (number r) ≡ r
-refusal-of NoEditor = refl
-refusal-of NoBatch = refl
-refusal-of BatchOpen = refl
-refusal-of NoSuchSignal = refl
-refusal-of OutOfRange = refl
-refusal-of Driven = refl
-refusal-of NotDriven = refl
-refusal-of NoSuchPin = refl
-refusal-of InUse = refl
-refusal-of NoLevelForMark = refl
-refusal-of NoMark = refl
-refusal-of MarkOpen = refl
-refusal-of AbsentInUse = refl
-refusal-of Looped = refl
-
-pub same-refusal : (r t : Refusal) → number r ≡ number t → r ≡ t
-same-refusal r t e = sym (refusal-of r) ∙ ap refusal_of e ∙ refusal-of t
+use Rattle.editor.specs.Calls.{RefusedWith, Declines, Refuses, Replies, Serves}
+use Rattle.editor.specs.Laws.{TellAlike, EqualWordsReplyAlike}
+use Rattle.editor.specs.Questions.{Says}
+use Rattle.editor.proofs.Answered.{says_one}
 
 module _ (m : ℕ) (a b a' b' : Meaning) (image : a.image ≡ b.image) (limit : a.limit ≡ b.limit) (open' : levels a ≡ levels b) where
   forth : (c : Call) (k : ℕ) → Refuses m a c k → Refuses m b c k
@@ -72,7 +51,20 @@ module _ (m : ℕ) (a b a' b' : Meaning) (image : a.image ≡ b.image) (limit : 
       (λ less. absurd (h.1 (number t) less (back c (number t) g.0))))
       (cases_order (number r) (number t))
 
+-- replies that are the refusal of one number
+same_refused : (k : ℕ) (r t : Result ℕ Refusal) → RefusedWith k r → RefusedWith k t → r ≡ t
+same_refused k (Ok p) t h g = absurd h
+same_refused k (Err r) (Ok q) h g = absurd g
+same_refused k (Err r) (Err t) h g = ap Err (same-refusal r t (h ∙ sym g))
+
+calls_alike : (m : ℕ) (a b a' b' : Meaning) (c : Call) (r t : Result ℕ Refusal) → TellAlike a b → Serves m a c a' r → Serves m b c b' t → r ≡ t
+calls_alike zero a b a' b' c r t same h g = same_refused 1 r t (h.none refl).0 (g.none refl).0
+calls_alike (suc m) a b a' b' c r t same h g =
+    same_reply (suc m) a b a' b' same.image same.limit same.depth c r t (h.some (omega arith)) (g.some (omega arith))
+
 pub alike : EqualWordsReplyAlike
-alike zero a b a' b' c r t image limit open' h g = (h.none refl).0 ∙ sym (g.none refl).0
-alike (suc m) a b a' b' c r t image limit open' h g =
-    same_reply (suc m) a b a' b' image limit open' c r t (h.some (omega arith)) (g.some (omega arith))
+alike = record {
+  calls = calls_alike;
+  questions = λ m a b q r t same h g. says_one m a.limit (levels a) a.image q r t h
+      (subst₃ (λ d v ws. Says m d v ws q t) (sym same.limit) (sym same.depth) (sym same.image) g);
+}

@@ -16,6 +16,7 @@ use Rattle.editor.specs.Plain.{plain}
 use Rattle.editor.specs.Shown.{Shows}
 use Rattle.editor.specs.State.{State, state_of, Reached}
 use Rattle.editor.specs.Steps.{Called, Displays, closed}
+use Rattle.editor.proofs.Looping.{refuses_loops}
 use Rattle.editor.proofs.Ordering.{in_order}
 use Rattle.editor.proofs.Stepping.{NoEdit, Done, done_by, reached_after, reached_workable, done_make, shows_early}
 
@@ -28,6 +29,7 @@ called s b b' shown shown' c r is reached done displays =
       serves = done.serves;
       steps = done.steps;
       order = in_order b'.signals b'.words (reached_after b b' c r done reached);
+      loops = refuses_loops (state_of b shown) b'.words c r done.serves;
       shown = displays;
       signals = done.stays.signals;
       size = done.stays.size;
@@ -92,7 +94,7 @@ kept_whole s s' count h =
     let replies = h.serves.some some in
     subst (λ a. levels a ≡ 0) (sym replies.1.0)
     (⊎_elim (λ lt. absurd (replies.0 22 (inr (inl (refl, lt))))) (λ le. omega (arith, length-drop 1 s.words.saved)) (cases_lt 1 (levels s.words))))
-    (λ le. absurd (let refused = (h.serves.none (omega arith)).0 in cc))
+    (λ le. absurd (h.serves.none (omega arith)).0)
     (cases_lt 0 s.signals))
 
 pub keeps_whole : (s s' : State) (r : Result (Unit {0}) Returned) → Called s Keep s' (closed r) → IfOk r (λ _. Whole (netlist_of s'.signals s'.words.image))

@@ -1,9 +1,12 @@
 -- A batch on the empty board of five signals, with D = 3.
-use Rattle.std.proofs.Common.{◌≡◌, ℕ, zero, suc, ◌+◌, ◌-◌, ◌*◌, ◌<◌, ◌≤◌, ◌⊎◌, List, [], ◌∷◌, ◌++◌, length, get_or, replicate, Ok, refl, ap, ◌∙◌, inl, inr, ⊎_elim, arith}
+use Rattle.std.proofs.Common.{◌≡◌, ℕ, zero, suc, ◌+◌, ◌-◌, ◌*◌, ◌<◌, ◌≤◌, ◌⊎◌, List, [], ◌∷◌, ◌++◌, length, get_or, set, replicate, Ok, refl, ap, ◌∙◌, inl, inr, ⊎_elim, arith}
 use Rattle.std.proofs.lemmas.List.{get_or-replicate, get_or_past, length-replicate, length-append, get_or_append_left, get_or-append_right}
 use Rattle.std.proofs.lemmas.Bool.{cases_lt}
 use Rattle.words.specs.Meaning.{Meaning, opened}
+use Rattle.netlist.specs.declared.edit.Edit.TheVariants.{Input}
+use Rattle.netlist.specs.Edits.{asked}
 use Rattle.board.specs.Layout.{word, seat, holder}
+use Rattle.board.specs.Board.{netlist_of, order_of}
 use Rattle.editor.specs.declared.call.Call.TheVariants.{Begin}
 use Rattle.editor.specs.Log.{Entry, Led}
 use Rattle.editor.specs.Laws.{Fresh}
@@ -14,7 +17,7 @@ abbrev middle : List ℕ
 middle = 0 ∷ 1 ∷ 2 ∷ 3 ∷ 4 ∷ 0 ∷ 1 ∷ 2 ∷ 3 ∷ 4 ∷ []
 
 -- five signals, each at its own place, in 144 words
-unfoldable image₅ : List ℕ
+unfoldable pub image₅ : List ℕ
 image₅ = replicate 15 0 ++ (middle ++ replicate 119 0)
 
 always_zero : (n k : ℕ) → ◌≡◌ {A = ℕ} (get_or (replicate n 0) k 0) 0
@@ -65,22 +68,28 @@ long = omega (arith, length-append (replicate 15 0) (middle ++ replicate 119 0),
 zeros₅ : (at : ℕ) → (at < 3 * 5) ⊎ (5 * 5 ≤ at) → word image₅ at ≡ 0
 zeros₅ at h = zeros at (⊎_elim (λ lt. inl (omega arith)) (λ le. inr (omega arith)) h)
 
-unfoldable start₅ : Meaning
+unfoldable pub start₅ : Meaning
 start₅ = record { limit = 3; image = image₅; saved = [] }
 
-pub fresh : (log : List Entry) × ((a : Meaning) × Fresh log a)
-unfolding start₅
-fresh =
+unfoldable pub batch₅ : Meaning
+batch₅ = opened start₅
+
+pub log₅ : List Entry
+log₅ = entry Begin (Ok 0) ∷ []
+
+pub fresh₅ : Fresh log₅ batch₅
+unfolding start₅ batch₅ log₅
+fresh₅ =
     let start : Led 5 [] start₅ =
-    led_start 5 start₅ (omega arith) (omega arith) (omega arith) refl (laid_stands 5 image₅ long zeros₅ seats holders) (laid_board 5 image₅ long zeros₅ seats holders) in (
-      entry Begin (Ok 0) ∷ [],
-      (
-        opened start₅,
-        record {
-          led = led_begin 5 [] start₅ (opened start₅) 0 refl refl start;
-          limit = refl;
-          batch = refl;
-          empty = ap (λ b. b.netlist) (laid_board 5 image₅ long zeros₅ seats holders);
-        },
-      ),
-    )
+    led_start 5 start₅ (omega arith) (omega arith) (omega arith) refl (laid_stands 5 image₅ long zeros₅ seats holders) (laid_board 5 image₅ long zeros₅ seats holders) in
+    record {
+      led = led_begin 5 [] start₅ (opened start₅) 0 refl refl start;
+      limit = refl;
+      batch = refl;
+      empty = ap (λ b. b.netlist) (laid_board 5 image₅ long zeros₅ seats holders);
+    }
+
+-- the words with signal 0 as an input
+pub entered₅ : (ws : List ℕ) × ((netlist_of 5 ws ≡ asked (netlist_of 5 batch₅.image) (Input 0)) × (order_of 5 ws ≡ order_of 5 batch₅.image))
+unfolding start₅ batch₅ image₅
+entered₅ = (set image₅ 0 1, (refl, refl))

@@ -174,22 +174,22 @@ above_none : (n : ℕ) → (n ≡ 0 → ⊥) → 0 < n
 above_none zero h = absurd (h refl)
 above_none (suc n) h = omega arith
 
--- what applies with one level open applies with any number of them
-one_level : (m levels : ℕ) (n : Netlist) (e : Edit) (k : ℕ) → Applies m 1 n e k → Applies m levels n e k
-one_level m levels n e k (no_batch z) = absurd (omega arith)
-one_level m levels n e k (no_signal h) = no_signal h
-one_level m levels n e k (out_of_range h) = out_of_range h
-one_level m levels n e k (driven h) = driven h
-one_level m levels n e k (wrong_kind h) = wrong_kind h
-one_level m levels n e k (no_pin h) = no_pin h
-one_level m levels n e k (in_use h) = in_use h
-one_level m levels n e k (looped x put xs loop) = looped x put xs loop
+-- what applies with some level open applies with any number of them
+pub any_levels : (m some levels : ℕ) (n : Netlist) (e : Edit) (k : ℕ) → 0 < some → Applies m some n e k → Applies m levels n e k
+any_levels m some levels n e k lt (no_batch z) = absurd (omega arith)
+any_levels m some levels n e k lt (no_signal h) = no_signal h
+any_levels m some levels n e k lt (out_of_range h) = out_of_range h
+any_levels m some levels n e k lt (driven h) = driven h
+any_levels m some levels n e k lt (wrong_kind h) = wrong_kind h
+any_levels m some levels n e k lt (no_pin h) = no_pin h
+any_levels m some levels n e k lt (in_use h) = in_use h
+any_levels m some levels n e k lt (looped xs loop) = looped xs loop
 
 pub led_make : (m : ℕ) (log : List Entry) (a a' : Meaning) (e : Edit) (count : ℕ) → Led m log a → Replies m a (Make e) a' (Ok count) → Stands m a'.image
     → Led m (log ++ entry (Make e) (Ok count) ∷ []) a'
 led_make m log a a' e count led (allowed, (inside, net, puts)) stands =
     let one : Edits m 1 (board_of m a.image) e (board_of m a'.image) (Ok count) =
-    ((λ k h. allowed k (one_level m (levels a) (netlist_of m a.image) e k h)), net, puts) in
+    ((λ k h. allowed k (any_levels m 1 (levels a) (netlist_of m a.image) e k (omega arith) h)), net, puts) in
     led_from m log (entry (Make e) (Ok count)) a' _ (tally_more log (entry (Make e) (Ok count))) led.some led.few
     (subst (λ d. 2 ≤ d) (sym inside.limit) led.two)
     (omega (arith, led.room, ap length inside.levels, inside.limit))

@@ -1,10 +1,13 @@
 mod Alike
+mod Answered
 mod Batches
 pub mod Calling
 mod Emptied
+mod Given
 mod Instance
 mod Laid
 pub mod Led
+pub mod Looping
 pub mod Ordering
 mod Pinned
 mod Rotation
@@ -12,5 +15,6 @@ mod Scanned
 mod Starting
 pub mod Stepping
 mod Told
+mod Untold
 mod Wholeness
 mod Written

@@ -3,8 +3,7 @@ use Rattle.std.proofs.Common.{◌≡◌, ℕ, suc, ◌+◌, ◌<◌, ◌≤◌, 
 use Rattle.std.proofs.lemmas.List.{append-nil, take_all, take-append-drop, drop_all, drop_more}
 use Rattle.std.specs.List.{refill}
 use Rattle.reach.specs.Reach.{Among}
-use Rattle.netlist.specs.Netlist.{Netlist, Different, Feeding, Loop}
-use Rattle.editor.specs.Shown.{SmallestFirst}
+use Rattle.netlist.specs.Netlist.{Netlist, Different, Feeding, Loop, SmallestFirst}
 
 -- ---- numbers among a list
 

@@ -1,5 +1,5 @@
 -- The start of an editor.
-use Rattle.std.proofs.Common.{◌≡◌, ℕ, ◌+◌, ◌*◌, ◌≤◌, [], length, sym, ap, ◌∙◌, subst, arith}
+use Rattle.std.proofs.Common.{◌≡◌, ℕ, ◌+◌, ◌*◌, ◌≤◌, min, [], length, sym, ap, ◌∙◌, subst, arith}
 use Rattle.std.proofs.lemmas.List.{nil_from_length}
 use Rattle.words.specs.Meaning.{Meaning, Lent, size}
 use Rattle.netlist.specs.Edits.{empty_board}
@@ -30,9 +30,11 @@ starts_over b laid fits only lays =
       refused = λ not. absurd (not fits);
     }
 
-pub starts : (m : ℕ) (a : Meaning) (lent : Lent) (b laid : Stored) → b ≡ record { signals = m; words = a; lent = lent } → Fits m a → OnlyWords b laid → Lays b laid
+pub starts : (m : ℕ) (a : Meaning) (lent : Lent) (b laid : Stored) → b ≡ record { signals = min m 1024; words = a; lent = lent } → Fits m a → OnlyWords b laid → Lays b laid
     → Starts m a laid.signals laid.words
-starts m a lent b laid is fits only lays =
+starts m a lent b laid given fits only lays =
+    let most : min m 1024 ≡ m = omega (arith, fits.few) in
+    let is : b ≡ record { signals = m; words = a; lent = lent } = given ∙ ap (λ n. record { signals = n; words = a; lent = lent }) most in
     subst (λ x. Starts x.signals x.words laid.signals laid.words) is (starts_over b laid (subst (λ x. Fits x.signals x.words) (sym is) fits) only lays)
 
 -- an editor that has signals was led to

@@ -1,23 +1,21 @@
 -- From what a call does on the board of an editor to the step that it adds to every log.
-use Rattle.std.proofs.Common.{◌≡◌, ℕ, ◌<◌, ◌≤◌, List, [], Ok, Err, Result, sym, refl, ap, subst, arith}
+use Rattle.std.proofs.Common.{◌≡◌, ℕ, ◌<◌, ◌≤◌, List, [], Ok, Err, Result, sym, refl, subst, arith}
 use Rattle.words.specs.Meaning.{Meaning}
 use Rattle.reach.specs.Listed.{along}
 use Rattle.reach.specs.declared.path.Path.{Path}
 use Rattle.netlist.specs.declared.edit.Edit.{Edit}
 use Rattle.netlist.specs.declared.edit.Refusal.{Refusal}
-use Rattle.netlist.specs.declared.edit.Refusal.TheVariants.{NoEditor, Looped}
-use Rattle.netlist.specs.Refusals.{number}
-use Rattle.netlist.specs.Netlist.{Netlist, Loop}
+use Rattle.netlist.specs.declared.edit.Refusal.TheVariants.{Looped}
+use Rattle.netlist.specs.Netlist.{Netlist, Loop, SmallestFirst}
 use Rattle.netlist.specs.Edits.{asked}
 use Rattle.board.specs.Board.{Sound}
 use Rattle.board.specs.Stored.{Stored, Stays}
-use Rattle.board.proofs.Writes.{stays-refl}
 use Rattle.edits.specs.Makes.{Workable, Makes, Early}
 use Rattle.editor.specs.declared.call.Call.{Call}
 use Rattle.editor.specs.declared.call.Call.TheVariants.{Begin, Mark, KeepMark, DropMark, Keep, Drop, Make}
 use Rattle.editor.specs.Calls.{Replies, Serves}
 use Rattle.editor.specs.Log.{Entry, Led}
-use Rattle.editor.specs.Shown.{Shows, SmallestFirst}
+use Rattle.editor.specs.Shown.{Shows}
 use Rattle.editor.specs.State.{Reached}
 use Rattle.editor.specs.Steps.{Steps}
 use Rattle.editor.proofs.Led.{led_step}
@@ -37,14 +35,6 @@ pub record Done (b : Stored) (c : Call) (b' : Stored) (r : Result ℕ Refusal) :
   pub serves : Serves b.signals b.words c b'.words r
   pub steps : Steps b.signals b.words c b'.words r
   pub stays : Stays b b'
-
--- by an editor of no signals
-pub done_idle : (b : Stored) (c : Call) (r : Result ℕ Refusal) → b.signals ≡ 0 → r ≡ Err NoEditor → Done b c b r
-done_idle b c r z is = record {
-  serves = record { none = λ _. (is, refl); some = λ lt. absurd (omega (arith, z, lt)) };
-  steps = λ log led. absurd (omega (arith, z, led.some));
-  stays = stays-refl b;
-}
 
 serves_some : (m : ℕ) (a : Meaning) (c : Call) (a' : Meaning) (r : Result ℕ Refusal) → 0 < m → Replies m a c a' r → Serves m a c a' r
 serves_some m a c a' r lt h = record { none = λ z. absurd (omega arith); some = λ _. h }
@@ -92,7 +82,7 @@ reached_after b b' c r done reached =
 
 pub shows_early : (n : Netlist) (e : Edit) (r : Result ℕ Refusal) (shown : List ℕ) → Early r → shown ≡ [] → Shows n e r shown
 shows_early n e (Ok count) shown h gone = gone
-shows_early n e (Err r) shown h gone = (λ _. gone, λ q. absurd (let z : number r ≡ 25 = ap number q in omega arith))
+shows_early n e (Err r) shown h gone = (λ _. gone, λ q. absurd (omega arith))
 
 pub shows_loop : (n : Netlist) (e : Edit) (path : Path) (shown : List ℕ) → Loop (asked n e) (along path) → ((k : Netlist) → Loop k (along path) → Loop k shown × SmallestFirst shown)
     → Shows n e (Err Looped) shown

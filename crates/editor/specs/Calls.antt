@@ -2,7 +2,6 @@
 use Rattle.std.specs.Prelude.{◌≡◌, ℕ, suc, ◌<◌, ◌≤◌, true, ◌⊎◌, List, [], ◌∷◌, Ok, Err, Result}
 use Rattle.words.specs.Meaning.{Meaning, levels, opened, kept, dropped}
 use Rattle.netlist.specs.declared.edit.Refusal.{Refusal}
-use Rattle.netlist.specs.declared.edit.Refusal.TheVariants.{NoEditor}
 use Rattle.netlist.specs.Refusals.{number}
 use Rattle.netlist.specs.Netlist.{Netlist, absent, driver_of, output_of, Used}
 use Rattle.netlist.specs.Places.{PutsAll}
@@ -11,6 +10,11 @@ use Rattle.board.specs.Board.{netlist_of, order_of}
 use Rattle.board.specs.Standing.{Inside}
 use Rattle.editor.specs.declared.call.Call.{Call}
 use Rattle.editor.specs.declared.call.Call.TheVariants.{Begin, Mark, KeepMark, DropMark, Keep, Drop, Make}
+
+-- a reply that is the refusal of a number
+abbrev pub RefusedWith : ℕ → Result ℕ Refusal → Type 0
+RefusedWith k (Ok count) = ⊥
+RefusedWith k (Err r) = number r ≡ k
 
 -- an absent signal that a pin is on, or that is an output
 pub record Missing (m : ℕ) (n : Netlist) (s : ℕ) : Type 0 where
@@ -53,6 +57,10 @@ Does m a (Make e) a' count =
 abbrev pub Refuses : ℕ → Meaning → Call → ℕ → Type 0
 Refuses m a c k = Declines m a.limit (levels a) (netlist_of m a.image) c k
 
+-- the smallest number that applies
+abbrev pub IsRefusal : ℕ → Meaning → Call → ℕ → Type 0
+IsRefusal m a c k = Refuses m a c k × ((j : ℕ) → j < k → Refuses m a c j → ⊥)
+
 -- The reply of an editor that has signals: what the call does, where no number applies; else the smallest that does, and nothing is changed.
 abbrev pub Replies : ℕ → Meaning → Call → Meaning → Result ℕ Refusal → Type 0
 Replies m a c a' (Ok count) = ((k : ℕ) → Refuses m a c k → ⊥) × Does m a c a' count
@@ -60,11 +68,5 @@ Replies m a c a' (Err r) = Refuses m a c (number r) × ((k : ℕ) → k < number
 
 -- An editor of no signals refuses every call with 1 and leaves the store alone.
 pub record Serves (m : ℕ) (a : Meaning) (c : Call) (a' : Meaning) (r : Result ℕ Refusal) : Type 0 where
-  pub none : m ≡ 0 → (r ≡ Err NoEditor) × (a' ≡ a)
+  pub none : m ≡ 0 → RefusedWith 1 r × (a' ≡ a)
   pub some : 0 < m → Replies m a c a' r
-
--- Editors of one M whose stores tell equal words, equal D and as many open levels reply alike.
-abbrev pub EqualWordsReplyAlike : Type 0
-EqualWordsReplyAlike =
-    (m : ℕ) (a b a' b' : Meaning) (c : Call) (r t : Result ℕ Refusal) → a.image ≡ b.image → a.limit ≡ b.limit → levels a ≡ levels b
-    → Serves m a c a' r → Serves m b c b' t → r ≡ t

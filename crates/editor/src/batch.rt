@@ -1,13 +1,14 @@
 // Batches and marks over a store: a batch is its first open level, every further level is a mark. That the words are sound is a premise of
 // clauses, since each is safe on any words.
-ghost use Rattle.std.specs.Prelude.{◌≡◌, ℕ, ◌<◌, ◌≤◌, Decides, MatchOption, MatchResult};
+ghost use Rattle.std.specs.Prelude.{◌≡◌, ℕ, ◌<◌, ◌≤◌, Decides, MatchResult};
 ghost use Rattle.words.specs.Meaning.{levels as levels_of};
 ghost use Rattle.netlist.specs.Refusals.{number};
 ghost use Rattle.board.specs.Board.{netlist_of, Sound};
 ghost use Rattle.board.specs.Stored.{Stays};
 ghost use Rattle.editor.specs.declared.call.Call.TheVariants.{Begin, Mark, KeepMark, DropMark, Keep, Drop};
-ghost use Rattle.editor.specs.Calls.{Missing, Refuses, Replies, emptied};
+ghost use Rattle.editor.specs.Calls.{IsRefusal, Missing, Replies, emptied};
 ghost use Rattle.editor.specs.Plain.{plain};
+ghost use Rattle.editor.specs.Questions.{IsSmallest};
 
 use board::StoredBoard;
 use netlist::Refusal;
@@ -42,7 +43,8 @@ pub(crate) fn open_mark<S: Store>(board: &mut StoredBoard<S>) -> Result<(), Refu
 
 // Whether there is a mark to close.
 fn check_mark<S: Store>(board: &StoredBoard<S>) -> Result<(), Refusal>
-    ensures { MatchResult result (λ _. 1 < levels_of board.now.words) (λ e. (m : ℕ) → Refuses m board.now.words KeepMark (number e) × ((k : ℕ) → k < number e → Refuses m board.now.words KeepMark k → ⊥)) }
+    ensures { let a = board.now.words in
+        MatchResult result (λ _. 1 < levels_of a) (λ e. (m : ℕ) → IsRefusal m a KeepMark (number e)) }
 {
     match board.levels() {
         0 => Err(Refusal::NoBatch),
@@ -90,7 +92,9 @@ pub(crate) fn drop_batch<S: Store>(board: &mut StoredBoard<S>) -> Result<(), Ref
 }
 
 pub(crate) fn keep_batch<S: Store>(board: &mut StoredBoard<S>) -> Result<(), Refusal>
-    ensures replies { Sound board.old.signals board.old.words.image → Replies board.old.signals board.old.words Keep board.new.words (plain result) }
+    ensures replies { let m = board.old.signals in
+        let a = board.old.words in
+        Sound m a.image → Replies m a Keep board.new.words (plain result) }
     ensures stays { Stays board.old board.new }
 {
     let levels = board.levels();
@@ -109,13 +113,17 @@ pub(crate) fn keep_batch<S: Store>(board: &mut StoredBoard<S>) -> Result<(), Ref
 
 // The smallest absent signal in use, in one pass over the signals.
 pub(crate) fn smallest_missing<S: Store>(board: &StoredBoard<S>) -> Option<u32>
-    ensures { Sound board.now.signals board.now.words.image → MatchOption result ((s : ℕ) → Missing board.now.signals (netlist_of board.now.signals board.now.words.image) s → ⊥) (λ s. Missing board.now.signals (netlist_of board.now.signals board.now.words.image) s × ((t : ℕ) → t < s → Missing board.now.signals (netlist_of board.now.signals board.now.words.image) t → ⊥)) }
+    ensures { let m = board.now.signals in
+        let ws = board.now.words.image in
+        Sound m ws → IsSmallest (Missing m (netlist_of m ws)) result }
 {
     (0..board.signals()).find(|signal| is_missing(board, *signal))
 }
 
 fn is_missing<S: Store>(board: &StoredBoard<S>, signal: u32) -> bool
-    ensures { signal < board.now.signals → Sound board.now.signals board.now.words.image → Decides result (Missing board.now.signals (netlist_of board.now.signals board.now.words.image) signal) }
+    ensures { let m = board.now.signals in
+        let ws = board.now.words.image in
+        signal < m → Sound m ws → Decides result (Missing m (netlist_of m ws) signal) }
 {
     board.is_absent(signal) && board.is_wanted(signal)
 }

@@ -2,7 +2,7 @@
 ghost use Rattle.std.specs.Prelude.{◌≡◌, ◌<◌, [], replicate, IfOk, MatchResult};
 ghost use Rattle.netlist.specs.Netlist.{Whole};
 ghost use Rattle.netlist.specs.declared.edit.Edit.TheVariants.{Input, Output, Gate, Latch, Delete, Move};
-ghost use Rattle.netlist.specs.declared.edit.Refusal.TheVariants.{NoEditor};
+ghost use Rattle.netlist.specs.Refusals.{number};
 ghost use Rattle.board.specs.Board.{netlist_of};
 ghost use Rattle.editor.specs.declared.call.Call.TheVariants.{Begin, Mark, KeepMark, DropMark, Keep, Drop, Make};
 ghost use Rattle.editor.specs.Made.{Tests, Starts};
@@ -16,7 +16,7 @@ use crate::ticket::{Returned, Ticket};
 use board::StoredBoard;
 use edits::{EditFault, add_input, add_latch, delete_signal, make_edit, mark_output};
 use netlist::{Edit, Refusal};
-use reach::clear;
+use reach::Flags;
 use std::marker::Model;
 use words::Store;
 
@@ -139,32 +139,28 @@ impl<S: Store> Editor<S> {
     pub fn input(&mut self, signal: u32) -> Result<u32, Refusal>
         ensures { Called self.old (Make (Input signal)) self.new result }
     {
-        self.shown.clear();
-        serves(&self.board)?;
+        begin_edit(&self.board, &mut self.shown)?;
         add_input(&mut self.board, signal)
     }
 
     pub fn output(&mut self, signal: u32, mark: u32) -> Result<u32, Refusal>
         ensures { Called self.old (Make (Output signal mark)) self.new result }
     {
-        self.shown.clear();
-        serves(&self.board)?;
+        begin_edit(&self.board, &mut self.shown)?;
         mark_output(&mut self.board, signal, mark)
     }
 
     pub fn latch(&mut self, signal: u32, net: u32, start: u32) -> Result<u32, Refusal>
         ensures { Called self.old (Make (Latch signal net start)) self.new result }
     {
-        self.shown.clear();
-        serves(&self.board)?;
+        begin_edit(&self.board, &mut self.shown)?;
         add_latch(&mut self.board, signal, net, start)
     }
 
     pub fn delete(&mut self, signal: u32) -> Result<u32, Refusal>
         ensures { Called self.old (Make (Delete signal)) self.new result }
     {
-        self.shown.clear();
-        serves(&self.board)?;
+        begin_edit(&self.board, &mut self.shown)?;
         delete_signal(&mut self.board, signal)
     }
 
@@ -210,10 +206,10 @@ impl<S: Store> Editor<S> {
         ensures clean { flags.new ≡ replicate 1024 0 }
     {
         self.shown.clear();
-        clear(flags);
+        let mut flags = Flags::new(flags);
         serves(&self.board)?;
         // a loop is shown on the way, so no conversion of the fault would do
-        match make_edit(&mut self.board, edit, flags) {
+        match make_edit(&mut self.board, edit, &mut flags) {
             Ok(count) => Ok(count),
             Err(EditFault::Refused(refusal)) => Err(refusal),
             Err(EditFault::Looped(path)) => {
@@ -224,9 +220,18 @@ impl<S: Store> Editor<S> {
     }
 }
 
+// What an edit that puts no pin begins with. It is handed the parts of an editor: until its call has ended, nothing is promised of the whole.
+fn begin_edit<S: Store>(board: &StoredBoard<S>, shown: &mut Shown) -> Result<(), Refusal>
+    ensures empties { shown.new ≡ [] }
+    ensures serves { MatchResult result (λ _. 0 < board.now.signals) (λ e. (number e ≡ 1) × (board.now.signals ≡ 0)) }
+{
+    shown.clear();
+    serves(board)
+}
+
 // An editor without signals serves no call.
 fn serves<S: Store>(board: &StoredBoard<S>) -> Result<(), Refusal>
-    ensures { MatchResult result (λ _. 0 < board.now.signals) (λ e. (e ≡ NoEditor) × (board.now.signals ≡ 0)) }
+    ensures { MatchResult result (λ _. 0 < board.now.signals) (λ e. (number e ≡ 1) × (board.now.signals ≡ 0)) }
 {
     if board.signals() == 0 {
         Err(Refusal::NoEditor)

@@ -32,7 +32,9 @@ pub(crate) fn fits<S: Store>(store: &S, signals: u32) -> bool
 // Writes the empty netlist: each signal is absent, no pin is on any, and signal n stands at place n. That M is at most 1,024 and the words
 // suffice are premises: words are written at any M, as far as there are any.
 pub(crate) fn lay_empty<S: Store>(board: &mut StoredBoard<S>)
-    ensures lays { board.old.signals ≤ 1024 → 24 * board.old.signals + 24 ≤ size_of board.old.words → Stands board.old.signals board.new.words.image × (board_of board.old.signals board.new.words.image ≡ empty_board board.old.signals) }
+    ensures lays { let m = board.old.signals in
+        let ws = board.new.words.image in
+        m ≤ 1024 → 24 * m + 24 ≤ size_of board.old.words → Stands m ws × (board_of m ws ≡ empty_board m) }
     ensures only { OnlyWords board.old board.new }
 {
     board.clear();
@@ -40,7 +42,8 @@ pub(crate) fn lay_empty<S: Store>(board: &mut StoredBoard<S>)
 }
 
 fn seat_all<S: Store>(board: &mut StoredBoard<S>)
-    ensures seats { 5 * board.old.signals ≤ size_of board.old.words → Seated board.old.signals board.old.signals board.old.words.image board.new.words.image }
+    ensures seats { let m = board.old.signals in
+        5 * m ≤ size_of board.old.words → Seated m m board.old.words.image board.new.words.image }
     ensures only { OnlyWords board.old board.new }
     ensures long { size_of board.new.words ≡ size_of board.old.words }
 {

@@ -1,15 +1,10 @@
 // What the words tell of a signal or a place, each at a cost that does not grow with the netlist, but for the smallest absent signal in use.
-ghost use Rattle.std.specs.Prelude.{◌≡◌, ℕ, ◌-◌, ◌<◌, ◌≤◌, [], ◌∷◌, length, take, Decides, MatchOption, slice_index};
-ghost use Rattle.words.specs.Meaning.{levels as levels_of};
-ghost use Rattle.table.specs.Table.{IsTable};
-ghost use Rattle.netlist.specs.Netlist.{driver_of, output_of, pins_of};
-ghost use Rattle.netlist.specs.Places.{place as place_of};
-ghost use Rattle.board.specs.Kinds.{kind_of};
+ghost use Rattle.std.specs.Prelude.{◌≡◌, [], ◌∷◌, slice_index};
+ghost use Rattle.netlist.specs.Netlist.{driver_of, pins_of};
 ghost use Rattle.board.specs.Layout.{value as value_word_of};
-ghost use Rattle.board.specs.Board.{netlist_of, nets as nets_of, order_of};
-ghost use Rattle.editor.specs.Calls.{Missing};
+ghost use Rattle.board.specs.Board.{netlist_of, nets as nets_of};
 ghost use Rattle.editor.specs.Steps.{InOrder};
-ghost use Rattle.editor.specs.Questions.{Tells, pin_words_lem, TableOf, start_of};
+ghost use Rattle.editor.specs.Questions.{Answers, asks_signals, asks_levels, asks_batch, asks_marks, asks_kind, asks_output, asks_pins, asks_table, asks_start, asks_place, asks_signal, asks_missing, Tabled, pin_words_lem};
 
 use crate::batch::smallest_missing;
 use crate::editor::Editor;
@@ -24,56 +19,56 @@ pub type Pins = ArrayVec<u32, 4>;
 impl<S: Store> Editor<S> {
     // M. Netlist and order of any editor are right.
     pub fn signals(&self) -> u32
-        ensures count { result ≡ self.now.signals }
+        ensures count { Answers self.now.signals self.now.words asks_signals result }
         ensures order { InOrder self.now.signals self.now.words }
     {
         self.board.signals()
     }
 
-    // how many levels are open
+    // how many levels are open: those of the store, at M = 0 too
     pub fn levels(&self) -> usize
-        ensures { result ≡ levels_of self.now.words }
+        ensures { Answers self.now.signals self.now.words asks_levels result }
     {
         self.board.levels()
     }
 
     // whether a batch is open
     pub fn batch_open(&self) -> bool
-        ensures { Decides result (0 < levels_of self.now.words) }
+        ensures { Answers self.now.signals self.now.words asks_batch result }
     {
         self.board.levels() > 0
     }
 
     // every level but that of the batch is a mark
     pub fn marks_open(&self) -> usize
-        ensures { result ≡ levels_of self.now.words - 1 }
+        ensures { Answers self.now.signals self.now.words asks_marks result }
     {
         self.board.levels().saturating_sub(1)
     }
 
     // Nothing is told of a signal that is not below M.
     pub fn kind(&self, signal: u32) -> Option<Kind>
-        ensures { Tells self.now.signals signal (λ k. (k ≡ kind_of (driver_of (netlist_of self.now.signals self.now.words.image) signal))) result }
+        ensures { Answers self.now.signals self.now.words (asks_kind signal) result }
     {
         (signal < self.signals()).then_some(self.board.kind(signal))
     }
 
     pub fn output_mark(&self, signal: u32) -> Option<bool>
-        ensures { Tells self.now.signals signal (λ o. (o ≡ output_of (netlist_of self.now.signals self.now.words.image) signal)) result }
+        ensures { Answers self.now.signals self.now.words (asks_output signal) result }
     {
         (signal < self.signals()).then_some(self.board.is_output(signal))
     }
 
     // the signals that its pins are on
     pub fn pins(&self, signal: u32) -> Option<Pins>
-        ensures { Tells self.now.signals signal (λ p. (p.items ≡ pins_of (driver_of (netlist_of self.now.signals self.now.words.image) signal))) result }
+        ensures { Answers self.now.signals self.now.words (asks_pins signal) result }
     {
         (signal < self.signals()).then_some(pins_at(&self.board, signal))
     }
 
     // the table of a gate
     pub fn table(&self, signal: u32) -> Option<Table>
-        ensures { TableOf (driver_of (netlist_of self.now.signals self.now.words.image) signal) result }
+        ensures { Answers self.now.signals self.now.words (asks_table signal) result }
     {
         match self.board.kind(signal) {
             Kind::Gate => table_at(&self.board, signal),
@@ -83,7 +78,7 @@ impl<S: Store> Editor<S> {
 
     // the start value of a latch
     pub fn start(&self, signal: u32) -> Option<u32>
-        ensures { result ≡ start_of (driver_of (netlist_of self.now.signals self.now.words.image) signal) }
+        ensures { Answers self.now.signals self.now.words (asks_start signal) result }
     {
         match self.board.kind(signal) {
             Kind::Latch => Some(self.board.read(Field::Value, signal)),
@@ -92,13 +87,13 @@ impl<S: Store> Editor<S> {
     }
 
     pub fn place(&self, signal: u32) -> Option<u32>
-        ensures { Tells self.now.signals signal (λ p. (p ≡ place_of (order_of self.now.signals self.now.words.image) signal)) result }
+        ensures { Answers self.now.signals self.now.words (asks_place signal) result }
     {
         (signal < self.signals()).then_some(self.board.read(Field::Seat, signal))
     }
 
     pub fn signal_at(&self, place: u32) -> Option<u32>
-        ensures { Tells self.now.signals place (λ s. (s ≡ slice_index (order_of self.now.signals self.now.words.image) place)) result }
+        ensures { Answers self.now.signals self.now.words (asks_signal place) result }
     {
         (place < self.signals()).then_some(self.board.read(Field::Holder, place))
     }
@@ -112,14 +107,15 @@ impl<S: Store> Editor<S> {
 
     // the smallest absent signal in use
     pub fn missing(&self) -> Option<u32>
-        ensures { MatchOption result ((s : ℕ) → Missing self.now.signals (netlist_of self.now.signals self.now.words.image) s → ⊥) (λ s. Missing self.now.signals (netlist_of self.now.signals self.now.words.image) s × ((t : ℕ) → t < s → Missing self.now.signals (netlist_of self.now.signals self.now.words.image) t → ⊥)) }
+        ensures { Answers self.now.signals self.now.words asks_missing result }
     {
         smallest_missing(&self.board)
     }
 }
 
 fn pins_at<S: Store>(board: &StoredBoard<S>, signal: u32) -> Pins
-    ensures { result.items ≡ pins_of (driver_of (netlist_of board.now.signals board.now.words.image) signal) }
+    ensures { let n = netlist_of board.now.signals board.now.words.image in
+        result.items ≡ pins_of (driver_of n signal) }
 {
     match board.kind(signal) {
         Kind::Absent | Kind::Input => ArrayVec::new(),
@@ -130,7 +126,9 @@ fn pins_at<S: Store>(board: &StoredBoard<S>, signal: u32) -> Pins
 
 // The value of a signal as a table of as many pins as are on something, if it fits them.
 fn table_at<S: Store>(board: &StoredBoard<S>, signal: u32) -> Option<Table>
-    ensures { MatchOption result (IsTable (length (nets_of (pin_words_lem board.now.signals board.now.words.image signal))) (value_word_of board.now.signals board.now.words.image signal) → ⊥) (λ t. (t.bits ≡ value_word_of board.now.signals board.now.words.image signal) × (t.pins ≡ length (nets_of (pin_words_lem board.now.signals board.now.words.image signal)))) }
+    ensures { let m = board.now.signals in
+        let ws = board.now.words.image in
+        Tabled (value_word_of m ws signal) (pin_words_lem m ws signal) result }
 {
     let pins = pins_on(pin_words(board, signal));
     Table::new(pins.len() as u32, board.read(Field::Value, signal)).ok()

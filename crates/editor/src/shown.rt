@@ -1,8 +1,7 @@
 // The loop that is shown of an edit that was refused for it, its smallest number first.
 ghost use Rattle.std.specs.Prelude.{◌≡◌, ℕ, ◌<◌, ◌≤◌, List, [], length, slice_index};
 ghost use Rattle.reach.specs.Listed.{along};
-ghost use Rattle.netlist.specs.Netlist.{Netlist, Loop};
-ghost use Rattle.editor.specs.Shown.{SmallestFirst};
+ghost use Rattle.netlist.specs.Netlist.{Netlist, Loop, SmallestFirst};
 
 use arrayvec::ArrayVec;
 use reach::Path;

@@ -1,5 +1,6 @@
 use Rattle.std.proofs.Common.{◌∙◌, refl, sym, subst}
 use Rattle.editor.specs.declared.call.Call.TheVariants.{Drop}
+use Rattle.editor.specs.Calls.{RefusedWith}
 use Rattle.desk.specs.Held.{Backed}
 use Rattle.desk.proofs.Returning.{refused_there, back_at_hand, told, told_of, unchanged}
 use Rattle.desk.proofs.Ticketless.{drop_from_ten}
@@ -19,4 +20,4 @@ returns-clause-own g c =
 pub returns-clause-told : goal.returns-clause-told
 returns-clause-told g c =
     let refused = refused_there _ _ Drop _ _ tt (λ z. (refl, z)) (drop_from_ten c.other.inside.editor.signals c.other.inside.editor.words) c.if-is_some.ensures c.drop_batch.ensures.called c.other.invariant in
-    told _ _ _ c.err.ensures.value (c.closed.ensures.reply ∙ refused.0) ∙ told_of _ _ _ _ c.in_ok-ticket.ticket c.self.view_is c.other.view_is c.in_ok-ticket.ensures.value c.if-is_some.ensures
+    told _ _ _ c.err.ensures.value (subst (RefusedWith _) (sym c.closed.ensures.reply) refused.0) ∙ told_of _ _ _ _ c.in_ok-ticket.ticket c.self.view_is c.other.view_is c.in_ok-ticket.ensures.value c.if-is_some.ensures

@@ -23,8 +23,8 @@ returns-in-Err-Refused-clause-called g c =
     })
     c.clear.ensures
 
-pub returns-in-Err-Looped-clause-called : goal.returns-in-Err-Looped-clause-called
-returns-in-Err-Looped-clause-called g c =
+pub returns-clause-called : goal.returns-clause-called
+returns-clause-called g c =
     let b = c.self.inside.board in
     called_edit _ b _ _ _ c.args.edit (Err Looped) c.self.view_is c.self.invariant c.in_ok-serves.ensures
     (rw c.in-Err-Looped.field-0-is at c.in-Err-Looped.ensures.makes) c.in-Err-Looped.ensures.stays

@@ -1,0 +1,40 @@
+-- An edit that nothing smaller refuses is refused for a loop exactly where it asks for one.
+use Rattle.std.proofs.Common.{◌≡◌, ℕ, ◌<◌, ◌↔◌, Ok, Err, Result, refl, arith}
+use Rattle.words.specs.Meaning.{Meaning, levels}
+use Rattle.netlist.specs.declared.edit.Edit.{Edit}
+use Rattle.netlist.specs.declared.edit.Refusal.{Refusal}
+use Rattle.netlist.specs.Refusals.{number}
+use Rattle.netlist.specs.Netlist.{Netlist, HasLoop}
+use Rattle.netlist.specs.Edits.{Applies, no_batch, no_signal, out_of_range, driven, wrong_kind, no_pin, in_use, looped, asked}
+use Rattle.board.specs.Board.{netlist_of}
+use Rattle.editor.specs.declared.call.Call.{Call}
+use Rattle.editor.specs.declared.call.Call.TheVariants.{Begin, Mark, KeepMark, DropMark, Keep, Drop, Make}
+use Rattle.editor.specs.Calls.{RefusedWith, Refuses, Replies, Serves}
+use Rattle.editor.specs.State.{State}
+use Rattle.editor.specs.Steps.{RefusesLoops}
+
+-- where no number below 25 applies, one that does is 25, and there is a loop
+loop_asked : (m open' : ℕ) (n : Netlist) (e : Edit) (k : ℕ) → Applies m open' n e k → ((j : ℕ) → j < 25 → Applies m open' n e j → ⊥) → (k ≡ 25) × HasLoop (asked n e)
+loop_asked m open' n e k (no_batch h) none = absurd (none 10 (omega arith) (no_batch h))
+loop_asked m open' n e k (no_signal h) none = absurd (none 12 (omega arith) (no_signal h))
+loop_asked m open' n e k (out_of_range h) none = absurd (none 13 (omega arith) (out_of_range h))
+loop_asked m open' n e k (driven h) none = absurd (none 14 (omega arith) (driven h))
+loop_asked m open' n e k (wrong_kind h) none = absurd (none 15 (omega arith) (wrong_kind h))
+loop_asked m open' n e k (no_pin h) none = absurd (none 16 (omega arith) (no_pin h))
+loop_asked m open' n e k (in_use h) none = absurd (none 19 (omega arith) (in_use h))
+loop_asked m open' n e k (looped xs loop) none = (refl, (xs, loop))
+
+refused_for : (m : ℕ) (a a' : Meaning) (e : Edit) (r : Result ℕ Refusal) → Replies m a (Make e) a' r → ((k : ℕ) → k < 25 → Refuses m a (Make e) k → ⊥)
+    → RefusedWith 25 r ↔ HasLoop (asked (netlist_of m a.image) e)
+refused_for m a a' e (Ok count) (allowed, done) none = (λ refused. absurd refused, λ (xs, loop). allowed 25 (looped xs loop))
+refused_for m a a' e (Err r) h none =
+    let (is, loop) = loop_asked m (levels a) (netlist_of m a.image) e (number r) h.0 none in (λ _. loop, λ _. is)
+
+pub refuses_loops : (s : State) (a' : Meaning) (c : Call) (r : Result ℕ Refusal) → Serves s.signals s.words c a' r → RefusesLoops s c r
+refuses_loops s a' Begin r serves = tt
+refuses_loops s a' Mark r serves = tt
+refuses_loops s a' KeepMark r serves = tt
+refuses_loops s a' DropMark r serves = tt
+refuses_loops s a' Keep r serves = tt
+refuses_loops s a' Drop r serves = tt
+refuses_loops s a' (Make e) r serves = λ some none. refused_for s.signals s.words a' e r (serves.some some) none
