@@ -1,0 +1,10 @@
+pub mod Barring
+pub mod CoverLines
+pub mod Gates
+pub mod LineSteps
+pub mod Listing
+pub mod Making
+pub mod Opening
+pub mod Pushing
+pub mod Running
+pub mod Sessions

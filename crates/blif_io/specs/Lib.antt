@@ -1,0 +1,4 @@
+pub mod Reader
+pub mod Session
+pub mod Taking
+pub mod Writing
