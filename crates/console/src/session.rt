@@ -116,7 +116,11 @@ impl<S: Store> Session<'_, S> {
     // The flags that a call is handed may hold anything.
     fn call(&mut self, call: Call) -> anyhow::Result<()> {
         let mut flags = [165; 1024];
-        let reply = self.desk.play(call, &mut flags);
+        let reply = match call {
+            // by its name: so one that puts no pin opens no level, which a snapshot copies whole
+            Call::Make(edit) => self.desk.make_named(edit, &mut flags),
+            _ => self.desk.play(call, &mut flags),
+        };
         print_reply(self.rt, self.desk.editor(), reply)?;
         if matches!(call, Call::Make(edit) if edit.may_put()) {
             print_flags(self.rt, &flags)?;

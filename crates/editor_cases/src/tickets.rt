@@ -1,4 +1,6 @@
 // A ticket of another editor is a ticket: an editor without a batch hands it back, and one with a batch takes it.
+ghost use Rattle.std.specs.Prelude.{◌≡◌};
+
 use crate::difference::Difference;
 use crate::fault::ensure;
 use crate::report::Report;
@@ -17,7 +19,10 @@ fn hand_in<A: Store, B: Store>(
     first: &mut Desk<A>,
     second: &mut Desk<B>,
     refusal: Refusal,
-) -> Result<(), Difference> {
+) -> Result<(), Difference>
+    ensures own { first.new ≡ first.old }
+    ensures other { second.new ≡ second.old }
+{
     ensure(first.keep_at(second) == Some(refusal), Difference::Ticket)?;
     ensure(first.drop_at(second) == Some(refusal), Difference::Ticket)
 }

@@ -5,17 +5,23 @@ use std::alloc::{AllocError, Global};
 use std::fmt;
 use std::io::{BufRead, BufReader};
 use store_script::{Command, Numbers, image_of, parse, play_both};
-use words::{Store, StoreRefusal};
+use words::{LEVELS_MOST, Snapshot, Store, StoreRefusal, WORDS_MOST};
 
 // Plays every line on an inverse log and a snapshot of `size` words and `limit` levels.
 pub fn play_input(rt: &HostRuntime, size: usize, limit: usize) -> anyhow::Result<()> {
     let heap = rt.alloc();
     let mut log_memory = Memory::new(heap, size, limit, 0)?;
-    let mut snapshot_memory = Memory::new(heap, size, limit, 0)?;
+    // just the needed size, about a third of what an inverse log takes: `memory` would lend it as much
+    let long = size.min(WORDS_MOST) * (limit.min(LEVELS_MOST) + 1);
+    let mut snapshot_memory = vec![in heap; 0u32; long]?;
     log_memory
         .test()
         .map_err(|_| anyhow!("N is 0 to 65536 and D is 2 to 8"))?;
-    play_lines(rt, log_memory.log(), snapshot_memory.snapshot())
+    play_lines(
+        rt,
+        log_memory.log(),
+        Snapshot::new(&mut snapshot_memory, size, limit),
+    )
 }
 
 fn play_lines<A: Store + Drop, B: Store + Drop>(
