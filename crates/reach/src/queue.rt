@@ -8,11 +8,12 @@ ghost use Rattle.reach.specs.Told.{Earlier};
 use crate::path::Path;
 use arrayvec::ArrayVec;
 
-// A number, and the place of the one that told it: an earlier place. The start was told by none.
+// A number, and the place of the one that told it: an earlier place. The start was told by none. A place is below 1,024, and kept short since a
+// queue is made anew, every byte of it, for each guard.
 #[derive(Clone, Copy, Default)]
 pub(crate) struct Found {
     pub(crate) number: u32,
-    pub(crate) teller: Option<u32>,
+    pub(crate) teller: Option<u16>,
 }
 
 #[derive(Drop)]
@@ -81,7 +82,7 @@ impl Queue {
     {
         let found: &[Found] = &self.found;
         let mut numbers = ArrayVec::new();
-        let mut next = Some(place as u32);
+        let mut next = Some(place as u16);
         // a loop, since an iterator over the numbers says which come, and not that there is room for all of them
         while let Some(at) = next {
             let Found { number, teller } = found[at as usize];

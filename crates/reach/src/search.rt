@@ -112,7 +112,7 @@ impl<'a> Search<'a> {
     }
 
     // A number is told by the one at a place, or by none: one that is new is flagged and listed.
-    fn note(&mut self, sought: Option<u32>, teller: Option<u32>, number: u32) -> Result<(), Sought>
+    fn note(&mut self, sought: Option<u32>, teller: Option<u16>, number: u32) -> Result<(), Sought>
         requires kept { Kept sought self.old.flags.now (listed self.old.queue) }
         requires told { ForSome teller (λ place. place < length (listed self.old.queue)) }
         ensures lent { self.new.flags.ghost_name ≡ self.old.flags.ghost_name }
@@ -149,7 +149,7 @@ impl<'a> Search<'a> {
             (λ _. Arrived next query.now.start query.now.sought found) }
     {
         for neighbour in Neighbours::of(query.relation, number) {
-            self.note(query.sought, Some(place as u32), neighbour)?;
+            self.note(query.sought, Some(place as u16), neighbour)?;
         }
         Ok(())
     }

@@ -111,6 +111,10 @@ pub(crate) fn words_of<'a, T: Text>(
         result }
 {
     let shown = without_comment(line);
+    // a line that shows nothing is right and has no words: told first, since a text may have many such lines
+    if shown.bytes.is_empty() {
+        return Ok(Vec::new(heap));
+    }
     check::<T>(shown).map_err(|fault| LineFault {
         fault,
         line: line.at.line,
