@@ -10,7 +10,7 @@ use Rattle.editor.specs.State.{State}
 use Rattle.editor.specs.Steps.{Called, InOrder}
 use Rattle.editor.proofs.Calling.{displays_kept}
 use Rattle.editor.proofs.Led.{led_refused}
-use Rattle.editor.proofs.Looping.{refuses_loops}
+use Rattle.editor.proofs.Looping.{refuses_loops, no_pin-no_loop}
 use Rattle.editor.proofs.Stepping.{NoEdit}
 use Rattle.desk.specs.Plays.{ticketless}
 
@@ -47,6 +47,7 @@ called_ten e c r other order is h =
       signals = refl;
       size = refl;
       behind = refl;
+      pinless = no_pin-no_loop e e.words c (Err r) order serves;
     }
 
 pub keep_without : (e : State) (r : Refusal) → number r ≡ ticketless e.signals → InOrder e.signals e.words → (0 < e.signals → levels e.words ≡ 0) → Called e Keep e (Err r)

@@ -16,7 +16,7 @@ use Rattle.editor.specs.Plain.{plain}
 use Rattle.editor.specs.Shown.{Shows}
 use Rattle.editor.specs.State.{State, state_of, Reached}
 use Rattle.editor.specs.Steps.{Called, Displays, closed}
-use Rattle.editor.proofs.Looping.{refuses_loops}
+use Rattle.editor.proofs.Looping.{refuses_loops, no_pin-no_loop}
 use Rattle.editor.proofs.Ordering.{in_order}
 use Rattle.editor.proofs.Stepping.{NoEdit, Done, done_by, reached_after, reached_workable, done_make, shows_early}
 
@@ -34,6 +34,7 @@ called s b b' shown shown' c r is reached done displays =
       signals = done.stays.signals;
       size = done.stays.size;
       behind = done.stays.behind;
+      pinless = no_pin-no_loop (state_of b shown) b'.words c r (in_order b.signals b.words reached) done.serves;
     })
 
 pub displays_kept : (s : State) (c : Call) (r : Result ℕ Refusal) → NoEdit c → Displays s c r s.shown

@@ -4,6 +4,7 @@ use Rattle.words.specs.Meaning.{Meaning, levels}
 use Rattle.netlist.specs.declared.edit.Edit.{Edit}
 use Rattle.netlist.specs.declared.edit.Edit.TheVariants.{Input}
 use Rattle.netlist.specs.declared.edit.Refusal.{Refusal}
+use Rattle.netlist.specs.declared.edit.Refusal.TheVariants.{NoLevelForMark}
 use Rattle.netlist.specs.Refusals.{number}
 use Rattle.netlist.specs.Netlist.{absent, input, driver_of, empty_netlist}
 use Rattle.netlist.specs.Edits.{Board}
@@ -55,6 +56,26 @@ pub record Fresh (log : List Entry) (a : Meaning) : Type 0 where
   pub batch : levels a ≡ 1
   pub empty : netlist_of 5 a.image ≡ empty_netlist 5
 
+-- The same whatever calls led there: no log is asked for.
+pub record FreshBatch (a : Meaning) : Type 0 where
+  pub limit : a.limit ≡ 3
+  pub batch : levels a ≡ 1
+  pub empty : netlist_of 5 a.image ≡ empty_netlist 5
+
+-- What every such batch replies to a mark, to a second one, to an input under the mark and to a drop of it.
+pub record EveryFreshBatch : Type 0 where
+  -- a mark is accepted,
+  pub mark : (a b : Meaning) (r : Result ℕ Refusal) → FreshBatch a → Replies 5 a Mark b r → r ≡ Ok 0
+  -- and a second one is refused with 20;
+  pub second_mark : (a b c : Meaning) (r : Result ℕ Refusal) → FreshBatch a → Replies 5 a Mark b (Ok 0) → Replies 5 b Mark c r
+      → r ≡ Err NoLevelForMark
+  -- an input that is entered under the mark is accepted, and there;
+  pub entered : (a b c : Meaning) (r : Result ℕ Refusal) → FreshBatch a → Replies 5 a Mark b (Ok 0) → Replies 5 b (Make (Input 0)) c r
+      → (r ≡ Ok 0) × (driver_of (netlist_of 5 c.image) 0 ≡ input)
+  -- the mark is dropped, and the signal is absent again
+  pub taken_back : (a b c d : Meaning) (r : Result ℕ Refusal) → FreshBatch a → Replies 5 a Mark b (Ok 0)
+      → Replies 5 b (Make (Input 0)) c (Ok 0) → Replies 5 c DropMark d r → (r ≡ Ok 0) × (driver_of (netlist_of 5 d.image) 0 ≡ absent)
+
 -- Worked cases with five signals, in a batch. Each reply is the only one (`EqualWordsReplyAlike`).
 pub record WorkedBatches : Type 0 where
   pub log : List Entry
@@ -74,3 +95,5 @@ pub record WorkedBatches : Type 0 where
   -- and with the mark dropped the signal is absent again
   pub drop_mark : Replies 5 third DropMark fourth (Ok 0)
   pub taken_back : driver_of (netlist_of 5 fourth.image) 0 ≡ absent
+  -- every batch that begins like this one replies alike
+  pub every : EveryFreshBatch

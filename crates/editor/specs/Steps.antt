@@ -4,7 +4,7 @@ use Rattle.words.specs.Meaning.{Meaning, size, levels}
 use Rattle.netlist.specs.declared.edit.Refusal.{Refusal}
 use Rattle.netlist.specs.Netlist.{HasLoop, Whole, driver_of}
 use Rattle.netlist.specs.Places.{Arranges, Ordered}
-use Rattle.netlist.specs.Edits.{asked}
+use Rattle.netlist.specs.Edits.{asked, puts_of}
 use Rattle.board.specs.Board.{netlist_of, order_of}
 use Rattle.board.specs.Standing.{Fitting}
 use Rattle.editor.specs.declared.call.Call.{Call}
@@ -50,6 +50,16 @@ RefusesLoops s (Make e) r =
     0 < s.signals → ((k : ℕ) → k < 25 → Refuses s.signals s.words (Make e) k → ⊥)
     → RefusedWith 25 r ↔ HasLoop (asked (netlist_of s.signals s.words.image) e)
 
+-- An edit that puts no pin is never refused for a loop.
+abbrev pub NoPinNoLoop : State → Call → Result ℕ Refusal → Type 0
+NoPinNoLoop s Begin r = Unit {0}
+NoPinNoLoop s Mark r = Unit {0}
+NoPinNoLoop s KeepMark r = Unit {0}
+NoPinNoLoop s DropMark r = Unit {0}
+NoPinNoLoop s Keep r = Unit {0}
+NoPinNoLoop s Drop r = Unit {0}
+NoPinNoLoop s (Make e) r = puts_of (netlist_of s.signals s.words.image) e ≡ [] → RefusedWith 25 r → ⊥
+
 -- The reply and what it leaves are those of the rules, whatever calls were made before, and the call adds its step to every log. Netlist and order
 -- are right after it. M, N and the memory behind the store stay.
 pub record Called (before : State) (c : Call) (after : State) (r : Result ℕ Refusal) : Type 0 where
@@ -61,6 +71,7 @@ pub record Called (before : State) (c : Call) (after : State) (r : Result ℕ Re
   pub signals : after.signals ≡ before.signals
   pub size : size after.words ≡ size before.words
   pub behind : after.lent ≡ before.lent
+  pub pinless : NoPinNoLoop before c r
 
 -- ---- replies that carry a ticket
 

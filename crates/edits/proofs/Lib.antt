@@ -1,9 +1,9 @@
 mod Carried
 mod Writing
 mod Boards
-mod Smallest
+pub mod Smallest
 mod Netted
 mod Putting
-mod Asked
+pub mod Asked
 mod Entering
 mod Whole
