@@ -64,9 +64,10 @@ fn same_latch<S: Store>(editor: &Editor<S>, names: &NameTable, number: u32, latc
 }
 
 fn same_pins<S: Store>(editor: &Editor<S>, names: &NameTable, number: u32, pins: &[&[u8]]) -> bool {
-    let Some(nets) = editor.pins(number) else {
+    let Some(told) = editor.pins(number) else {
         return false;
     };
+    let nets = told.as_slice();
     nets.len() == pins.len()
         && nets
             .iter()

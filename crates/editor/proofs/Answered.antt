@@ -4,12 +4,12 @@ use Rattle.std.proofs.lemmas.Bool.{cases_order}
 use Rattle.std.proofs.Math.Bridge.{le_prop}
 use mathlib.Core.HLevel.{is_prop→PathP}
 use Rattle.std.specs.Bool.{one_answer}
-use Rattle.arrayvec.specs.ArrayVec.{ArrayVec}
 use Rattle.table.specs.declared.shape.Table.{Table}
 use Rattle.netlist.specs.Netlist.{Driver, absent, input, gate, latch, driver_of}
 use Rattle.board.specs.Board.{netlist_of}
 use Rattle.editor.specs.Calls.{Missing}
 use Rattle.editor.specs.Questions.{Question, asks_signals, asks_levels, asks_batch, asks_marks, asks_kind, asks_output, asks_pins, asks_table, asks_start, asks_place, asks_signal, asks_missing, Answer, Tells, HasTable, IsSmallest, Says}
+use Rattle.editor.proofs.Pinned.{one_pins}
 
 -- where P holds of one thing at most, one thing is told
 tells_one : {A : Type 0} (m s : ℕ) (P : A → Type 0) (one : (x y : A) → P x → P y → x ≡ y) (r t : Option A) → Tells m s P r → Tells m s P t → r ≡ t
@@ -21,9 +21,6 @@ tells_one m s P one (Some x) (Some y) h g = ap Some (one x y h.1 g.1)
 -- what is told is a given thing
 tells_same : {A : Type 0} (m s : ℕ) (z : A) (r t : Option A) → Tells m s (λ x. x ≡ z) r → Tells m s (λ x. x ≡ z) t → r ≡ t
 tells_same m s z r t h g = tells_one m s (λ x. x ≡ z) (λ x y p q. p ∙ sym q) r t h g
-
-same_pins : (x y : ArrayVec ℕ) → x.items ≡ y.items → x ≡ y
-same_pins x y e = λ i. record { items = e i }
 
 same_table : (x y : Table) → x.bits ≡ y.bits → x.pins ≡ y.pins → x ≡ y
 same_table x y bits pins = λ i. record {
@@ -55,7 +52,7 @@ says_one m d open' ws asks_batch r t h g = one_answer r t h g
 says_one m d open' ws asks_marks r t h g = h ∙ sym g
 says_one m d open' ws (asks_kind s) r t h g = tells_same m s _ r t h g
 says_one m d open' ws (asks_output s) r t h g = tells_same m s _ r t h g
-says_one m d open' ws (asks_pins s) r t h g = tells_one m s _ (λ x y p q. same_pins x y (p ∙ sym q)) r t h g
+says_one m d open' ws (asks_pins s) r t h g = tells_one m s _ (λ x y p q. one_pins x y _ p q) r t h g
 says_one m d open' ws (asks_table s) r t h g = table_one (driver_of (netlist_of m ws) s) r t h g
 says_one m d open' ws (asks_start s) r t h g = h ∙ sym g
 says_one m d open' ws (asks_place s) r t h g = tells_same m s _ r t h g

@@ -12,7 +12,8 @@ use Rattle.board.specs.declared.kind.Kind.{Kind}
 use Rattle.board.specs.declared.kind.Kind.TheVariants.{Gate, Latch}
 use Rattle.board.specs.Kinds.{kind_of}
 use Rattle.board.proofs.Driving.{kind_past}
-use Rattle.editor.specs.Questions.{pin_words_lem, HasTable, start_of}
+use Rattle.editor.specs.declared.questions.Pins.{Pins}
+use Rattle.editor.specs.Questions.{pin_words_lem, AreOn, HasTable, start_of}
 use Rattle.board.proofs.Signals.{driver-at}
 
 -- ---- kinds
@@ -82,11 +83,12 @@ module _ (m : ℕ) (ws : List ℕ) (s : ℕ) where
 
   -- ---- pins
 
-  pub gate-pins : (on words : List ℕ) → words ≡ pin_words_lem m ws s → on ≡ nets words → Gate ≡ kind_of the_driver → on ≡ pins_of the_driver
-  gate-pins on words is h e = h ∙ ap nets is ∙ sym (ap pins_of (gate_is e))
+  pub gate-pins : (p : Pins) (words : List ℕ) → words ≡ pin_words_lem m ws s → AreOn p (nets words) → Gate ≡ kind_of the_driver → AreOn p (pins_of the_driver)
+  gate-pins p words is h e = subst (AreOn p) (ap nets is ∙ sym (ap pins_of (gate_is e))) h
 
-  pub latch-pins : (on words : List ℕ) → words ≡ pin_words_lem m ws s → on ≡ get_or (nets words) 0 0 ∷ [] → Latch ≡ kind_of the_driver → on ≡ pins_of the_driver
-  latch-pins on words is h e = h ∙ ap (λ l. get_or (nets l) 0 0 ∷ []) is ∙ sym (ap pins_of (latch_is e))
+  pub latch-pins : (p : Pins) (words : List ℕ) → words ≡ pin_words_lem m ws s → AreOn p (get_or (nets words) 0 0 ∷ []) → Latch ≡ kind_of the_driver
+      → AreOn p (pins_of the_driver)
+  latch-pins p words is h e = subst (AreOn p) (ap (λ l. get_or (nets l) 0 0 ∷ []) is ∙ sym (ap pins_of (latch_is e))) h
 
 pub no_start : (d : Driver) (k : Kind) → k ≡ kind_of d → (k ≡ Latch → ⊥) → None ≡ start_of d
 no_start absent k e other = refl

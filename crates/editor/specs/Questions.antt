@@ -1,6 +1,5 @@
 -- What an editor answers to a question.
-use Rattle.std.specs.Prelude.{◌≡◌, ℕ, ◌-◌, ◌<◌, ◌≤◌, Bool, List, [], ◌∷◌, length, Some, None, Option, MatchOption, Decides, slice_index}
-use Rattle.arrayvec.specs.ArrayVec.{ArrayVec}
+use Rattle.std.specs.Prelude.{◌≡◌, ℕ, ◌-◌, ◌<◌, ◌≤◌, Bool, List, [], ◌∷◌, length, take, Some, None, Option, MatchOption, Decides, slice_index}
 use Rattle.words.specs.Meaning.{Meaning, levels}
 use Rattle.table.specs.Table.{IsTable}
 use Rattle.table.specs.declared.shape.Table.{Table}
@@ -11,6 +10,7 @@ use Rattle.board.specs.Kinds.{kind_of}
 use Rattle.board.specs.Layout.{pin_told}
 use Rattle.board.specs.Board.{nets, netlist_of, order_of}
 use Rattle.editor.specs.Calls.{Missing}
+use Rattle.editor.specs.declared.questions.Pins.{Pins}
 
 -- How many signals there are; how many levels are open, whether a batch is, and how many marks are; of a signal what drives it, its output mark,
 -- its pins, its table, its start value and its place; the signal at a place; the smallest absent signal in use.
@@ -35,7 +35,7 @@ Answer asks_batch = Bool
 Answer asks_marks = ℕ
 Answer (asks_kind s) = Option Kind
 Answer (asks_output s) = Option Bool
-Answer (asks_pins s) = Option (ArrayVec ℕ)
+Answer (asks_pins s) = Option Pins
 Answer (asks_table s) = Option Table
 Answer (asks_start s) = Option ℕ
 Answer (asks_place s) = Option ℕ
@@ -49,6 +49,13 @@ Tells m s P r = MatchOption r (m ≤ s) (λ x. (s < m) × P x)
 -- a table of these bits for so many pins
 abbrev pub IsTableOf : ℕ → ℕ → Table → Type 0
 IsTableOf bits pins t = (t.bits ≡ bits) × (t.pins ≡ pins)
+
+-- the signals that pins are on, with 0 behind the last: room for four
+pub record AreOn (pins : Pins) (on : List ℕ) : Type 0 where
+  pub few : pins.count ≤ 4
+  pub room : length pins.nets ≡ 4
+  pub nets : take pins.count pins.nets ≡ on
+  pub rest : (k : ℕ) → pins.count ≤ k → slice_index pins.nets k ≡ 0
 
 -- the table of a gate, and of nothing else
 abbrev pub HasTable : Driver → Option Table → Type 0
@@ -76,7 +83,7 @@ Says m d open' ws asks_batch r = Decides r (0 < open')
 Says m d open' ws asks_marks r = r ≡ open' - 1
 Says m d open' ws (asks_kind s) r = Tells m s (λ k. k ≡ kind_of (driver_of (netlist_of m ws) s)) r
 Says m d open' ws (asks_output s) r = Tells m s (λ o. o ≡ output_of (netlist_of m ws) s) r
-Says m d open' ws (asks_pins s) r = Tells m s (λ p. p.items ≡ pins_of (driver_of (netlist_of m ws) s)) r
+Says m d open' ws (asks_pins s) r = Tells m s (λ p. AreOn p (pins_of (driver_of (netlist_of m ws) s))) r
 Says m d open' ws (asks_table s) r = HasTable (driver_of (netlist_of m ws) s) r
 Says m d open' ws (asks_start s) r = r ≡ start_of (driver_of (netlist_of m ws) s)
 Says m d open' ws (asks_place s) r = Tells m s (λ p. p ≡ place (order_of m ws) s) r

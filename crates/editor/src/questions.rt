@@ -1,20 +1,52 @@
 // What the words tell of a signal or a place, each at a cost that does not grow with the netlist, but for the smallest absent signal in use.
-ghost use Rattle.std.specs.Prelude.{◌≡◌, [], ◌∷◌, slice_index};
+ghost use Rattle.std.specs.Prelude.{◌≡◌, ℕ, ◌<◌, List, [], ◌∷◌, ◌++◌, take, slice_index};
 ghost use Rattle.netlist.specs.Netlist.{driver_of, pins_of};
 ghost use Rattle.board.specs.Layout.{value as value_word_of};
 ghost use Rattle.board.specs.Board.{netlist_of, nets as nets_of};
 ghost use Rattle.editor.specs.Steps.{InOrder};
-ghost use Rattle.editor.specs.Questions.{Answers, asks_signals, asks_levels, asks_batch, asks_marks, asks_kind, asks_output, asks_pins, asks_table, asks_start, asks_place, asks_signal, asks_missing, Tabled, pin_words_lem};
+ghost use Rattle.editor.specs.Questions.{Answers, asks_signals, asks_levels, asks_batch, asks_marks, asks_kind, asks_output, asks_pins, asks_table, asks_start, asks_place, asks_signal, asks_missing, AreOn, Tabled, pin_words_lem};
 
 use crate::batch::smallest_missing;
 use crate::editor::Editor;
-use arrayvec::ArrayVec;
 use board::{Field, Kind, StoredBoard};
 use table::Table;
 use words::Store;
 
-// The signals that the pins of a gate or a latch are on.
-pub type Pins = ArrayVec<u32, 4>;
+// The signals that the pins of a gate or a latch are on. An array and its count can be copied, as an `ArrayVec` cannot.
+#[derive(Clone, Copy, PartialEq, Eq, Debug)]
+pub struct Pins {
+    // at most four
+    pub count: u32,
+    // those past the count are 0
+    pub nets: [u32; 4],
+}
+
+impl Pins {
+    fn none() -> Self
+        ensures { AreOn result [] }
+    {
+        Pins {
+            count: 0,
+            nets: [0; 4],
+        }
+    }
+
+    // one pin more
+    fn push(&mut self, net: u32)
+        requires { self.old.count < 4 }
+        ensures { (on : List ℕ) → AreOn self.old on → AreOn self.new (on ++ net ∷ []) }
+    {
+        self.nets[self.count as usize] = net;
+        self.count += 1;
+    }
+
+    // the nets up to the count
+    pub fn as_slice(&self) -> &[u32]
+        ensures { result.now ≡ take self.now.count self.now.nets }
+    {
+        self.nets.get(..self.count as usize).unwrap_or(&self.nets)
+    }
+}
 
 impl<S: Store> Editor<S> {
     // M. Netlist and order of any editor are right.
@@ -115,10 +147,10 @@ impl<S: Store> Editor<S> {
 
 fn pins_at<S: Store>(board: &StoredBoard<S>, signal: u32) -> Pins
     ensures { let n = netlist_of board.now.signals board.now.words.image in
-        result.items ≡ pins_of (driver_of n signal) }
+        AreOn result (pins_of (driver_of n signal)) }
 {
     match board.kind(signal) {
-        Kind::Absent | Kind::Input => ArrayVec::new(),
+        Kind::Absent | Kind::Input => Pins::none(),
         Kind::Gate => pins_on(pin_words(board, signal)),
         Kind::Latch => one_pin(pin_words(board, signal)),
     }
@@ -131,36 +163,42 @@ fn table_at<S: Store>(board: &StoredBoard<S>, signal: u32) -> Option<Table>
         Tabled (value_word_of m ws signal) (pin_words_lem m ws signal) result }
 {
     let pins = pins_on(pin_words(board, signal));
-    Table::new(pins.len() as u32, board.read(Field::Value, signal)).ok()
+    Table::new(pins.count, board.read(Field::Value, signal)).ok()
 }
 
-// The words of a signal's four pins.
+// The words of a signal's four pins. Each is read by a call of its own, in the caller, where what is asked of the store comes once for all four.
+#[inline]
 fn pin_words<S: Store>(board: &StoredBoard<S>, signal: u32) -> [u32; 4]
     ensures { result ≡ pin_words_lem board.now.signals board.now.words.image signal }
 {
-    [0, 1, 2, 3].map(|pin| board.pin(signal, pin))
+    [
+        board.pin(signal, 0),
+        board.pin(signal, 1),
+        board.pin(signal, 2),
+        board.pin(signal, 3),
+    ]
 }
 
 // The signals that pins are on, up to the first pin that is on none.
 fn pins_on(words: [u32; 4]) -> Pins
-    ensures { result.items ≡ nets_of words }
+    ensures { AreOn result (nets_of words) }
 {
-    // to collect them could fail, for want of a room that there is
-    let mut nets = ArrayVec::new();
+    // a loop, since a count beside an array is nothing to collect into
+    let mut pins = Pins::none();
     for word in words {
         let Some(net) = word.checked_sub(1) else {
             break;
         };
-        nets.push(net);
+        pins.push(net);
     }
-    nets
+    pins
 }
 
 // A latch has one pin, whatever the words say.
 fn one_pin(words: [u32; 4]) -> Pins
-    ensures { result.items ≡ slice_index (nets_of words) 0 ∷ [] }
+    ensures { AreOn result (slice_index (nets_of words) 0 ∷ []) }
 {
-    let mut nets = ArrayVec::new();
-    nets.push(words[0].saturating_sub(1));
-    nets
+    let mut pins = Pins::none();
+    pins.push(words[0].saturating_sub(1));
+    pins
 }

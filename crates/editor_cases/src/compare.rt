@@ -75,13 +75,10 @@ fn told_driver<S: Store>(editor: &Editor<S>, number: u32) -> Option<Driver> {
 }
 
 fn told_gate<S: Store>(editor: &Editor<S>, number: u32) -> Option<Driver> {
-    let nets = editor.pins(number)?;
+    let pins = editor.pins(number)?;
     let table = editor.table(number)?;
-    let gate = Gate {
-        table: table.bits(),
-        nets,
-    };
-    (table.pins() == gate.nets.len() as u32).then_some(Driver::Gate(gate))
+    let gate = Gate::new(pins.count, pins.nets, table.bits());
+    (table.pins() == pins.count).then_some(Driver::Gate(gate))
 }
 
 fn told_latch<S: Store>(editor: &Editor<S>, number: u32) -> Option<Driver> {
